@@ -163,7 +163,7 @@ def check_sources(it):
     """Each change of a source shows, also one of a file whose size and age stay, where the checksum was kept."""
     kept = [it.clone / "crates.txt", it.clone / "HANDLES"]
     for pattern in ("src/**/*.rt", "specs/**/*.antt", "proofs/**/*.antt"):
-        kept.append(it.file(f"crates/edit_engine/{pattern}"))
+        kept.append(it.file(f"crates/stand_in_session/{pattern}"))
     for path in kept:
         time.sleep(SECONDS + 0.5)
         it.serves("before a change")
@@ -277,7 +277,7 @@ def check_gate(it, rt, built):
     for path, named in ((it.clone / PROGRAM, PROGRAM), (built[0], PROGRAM), (it.clone / FOR_ARM, FOR_ARM), (built[-1], FOR_ARM)):
         with changed(path):
             gate(f"a byte of {path} changed", "7 passed, 1 failed", f"{named} differs")
-    with changed(it.file("crates/edit_engine/src/*.rt")):
+    with changed(it.file("crates/stand_in_session/src/*.rt")):
         gate("other sources", PASSED, "other sources")
     manifest = it.clone / "dist/MANIFEST"
     text = manifest.read_text()

@@ -108,7 +108,7 @@ def header_structs(header):
 
 def versions():
     """The version as the library tells it, as text and as a number, and as the Makefile has it."""
-    naming = (TOP / "crates/session_calls/src/naming.rt").read_text()
+    naming = (TOP / "crates/c_calls/src/naming.rt").read_text()
     text = re.search(r'fill\("([\d.]+)"\.as_bytes\(\)', naming)[1]
     number = int(re.search(r"^pub fn version\(\).*?^    ([\d_]+)$", naming, re.MULTILINE | re.DOTALL)[1])
     made = re.search(r"^VERSION = (.*)$", (TOP / "Makefile").read_text(), re.MULTILINE)[1]

@@ -5,8 +5,8 @@ use Rattle.std.specs.Option.{option_or}
 use Rattle.annexb.specs.NalUnit.{nal_unit_type, nal_ref_idc, forbidden_zero_bit, is_slice, begins_at_macroblock_zero}
 use Rattle.annexb.specs.AccessUnits.{precedes_slices}
 use Rattle.param_sets.specs.declared.fault.SetFault.{SetFault}
-use Rattle.slice_header_types.specs.declared.slice_types.SliceType.{SliceType}
-use Rattle.slice_header_types.specs.declared.slice_types.SliceType.TheVariants as types
+use Rattle.h264_types.specs.declared.slice_headers.slice_types.SliceType.{SliceType}
+use Rattle.h264_types.specs.declared.slice_headers.slice_types.SliceType.TheVariants as types
 use Rattle.slice_header.specs.Fronts.{slice_type_at}
 use Rattle.access_unit.specs.declared.refused.Refused.{Refused}
 use Rattle.access_unit.specs.declared.refused.Refused.TheVariants.{UnitType, ForbiddenBit, Sps, Pps, Switching, MixedIdr, IdrNotIntra, IdrNotReference, MixedReference, UnitOrder, TwoPictures, TooLarge}

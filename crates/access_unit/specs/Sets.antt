@@ -3,8 +3,8 @@ use Rattle.std.specs.Prelude.{ℕ, ◌==◌, Bool, true, false, List, Option, No
 use Rattle.std.specs.List.{filter_map}
 use Rattle.annexb.specs.NalUnit.{nal_unit_type}
 use Rattle.annexb.specs.EmulationPrevention.{payload_of}
-use Rattle.param_set_types.specs.declared.sps.Sps.{Sps}
-use Rattle.param_set_types.specs.declared.pps.Pps.{Pps}
+use Rattle.h264_types.specs.declared.param_sets.sps.Sps.{Sps}
+use Rattle.h264_types.specs.declared.param_sets.pps.Pps.{Pps}
 use Rattle.param_sets.specs.declared.fault.SetFault.{SetFault}
 use Rattle.param_sets.specs.Sets.{sps_at, pps_at}
 use Rattle.access_unit.specs.declared.parameter_sets.ParameterSet.{ParameterSet}

@@ -7,8 +7,8 @@ ghost use Rattle.access_unit.specs.Stored.{refusal_in};
 use crate::refused::Refused;
 use crate::shared_nal::SharedNal;
 use annexb::{Nal, precedes_slices};
+use h264_types::slice_headers::SliceType;
 use slice_header::slice_type;
-use slice_header_types::SliceType;
 
 /// How many slices an access unit has at most.
 const MOST_SLICES: usize = 256;

@@ -6,8 +6,8 @@ ghost use Rattle.access_unit.specs.Stored.{IsShown};
 
 use crate::refused::Refused;
 use annexb::{Nal, payload};
-use base_types::Shared;
-use param_set_types::{Pps, Sps};
+use h264_types::base::Shared;
+use h264_types::param_sets::{Pps, Sps};
 use param_sets::{SetFault, read_pps, read_sps};
 use std::alloc::Global;
 

@@ -1,7 +1,6 @@
 //! What is found of a file, as JSON (docs/OUTPUT.md).
 
 use access_unit::{Refusal, Refused};
-use file_kinds::FileKind;
 use serde::Serialize;
 use std::alloc::{AllocError, Global};
 use stream_check::{
@@ -9,6 +8,7 @@ use stream_check::{
     chroma_words, longest, profile_words,
 };
 use stream_reasons::Reason;
+use stream_reasons::file_kinds::FileKind;
 
 /// What is found of a file: one object.
 #[derive(Drop, Serialize)]

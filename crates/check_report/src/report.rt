@@ -1,13 +1,13 @@
 //! What is found of a file, as text.
 
 use access_unit::Refusal;
-use file_kinds::FileKind;
 use std::fmt;
 use std::fmt::{Display, Formatter, Write};
 use stream_check::{
     CheckedStream, Counts, Found, Problem, RefusedStream, Stretch, Unread, longest,
 };
 use stream_reasons::Reason;
+use stream_reasons::file_kinds::FileKind;
 use unit_outcomes::ValidityFault;
 
 /// How many lines of one kind are printed.

@@ -9,7 +9,7 @@ use Rattle.clap.specs.declared.builder.ValueParser.TheVariants.{Unsigned}
 use Rattle.clap.specs.declared.parser.matches.Found.{Found}
 use Rattle.clap.proofs.ValueTestLemmas.{Accepts-accepts, accepts-Accepts}
 use Rattle.clap.proofs.WalkLemmas.{first_value-rows, one_text-rows}
-use Rattle.unit_json.specs.declared.decode_mode.DecodeMode.{DecodeMode}
+use Rattle.unit_printing.specs.declared.json.decode_mode.DecodeMode.{DecodeMode}
 use Rattle.cli.specs.Bounds.{most_id}
 use Rattle.cli.specs.CommandLine.{Wanted, audit, audit_in, cache_in, check, check_in, draw_in, drawing, form_in, from_by, from_in, has_flag, is_true, mend, mend_in, number_in, number_of, plan, plan_in, run, run_in, serve, serve_in, several, units_in, workers_in}
 

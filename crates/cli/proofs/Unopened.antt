@@ -13,12 +13,12 @@ use Rattle.plan_stream.specs.declared.fault.PlanFault.TheVariants as fault
 use Rattle.script_run.specs.RunFaults.{fault_of_input}
 use Rattle.script_run.proofs.Told.{stops-unread}
 use Rattle.script_run.specs.Messages.{run_fault_text}
-use Rattle.shared_run.proofs.Told.{ends-unread, stops-unread as seat-stops-unread}
+use Rattle.script_run.proofs.SharedTold.{ends-unread, stops-unread as seat-stops-unread}
 use Rattle.cli.specs.CommandLine.{audit, check, draw, mend, plan, run}
 use Rattle.mend_run.specs.declared.running.MendFault.TheVariants as mending
 use Rattle.stream_mending.specs.Mended.{mended, told as told_of}
-use Rattle.unit_json.specs.declared.decode_mode.DecodeMode.{DecodeMode}
-use Rattle.unit_json.proofs.Ends.{ends-unread as ends-unread-json}
+use Rattle.unit_printing.specs.declared.json.decode_mode.DecodeMode.{DecodeMode}
+use Rattle.unit_printing.proofs.Ends.{ends-unread as ends-unread-json}
 use Rattle.cli.specs.Programs.{FailsAt, StopsScript, says_json}
 
 -- what holds of each holds of the one that is there

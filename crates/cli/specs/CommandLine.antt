@@ -13,9 +13,9 @@ use Rattle.clap.specs.declared.builder.ValueParser.{ValueParser}
 use Rattle.clap.specs.declared.builder.ValueParser.TheVariants.{Signed}
 use Rattle.clap.specs.declared.error.ErrorKind.{ErrorKind}
 use Rattle.clap.specs.declared.error.ErrorKind.TheVariants.{DisplayHelp, DisplayVersion, MissingRequiredArgument, OutOfMemory}
-use Rattle.picture_cache.specs.Bounded.{most_room}
-use Rattle.unit_json.specs.declared.decode_mode.DecodeMode.{DecodeMode}
-use Rattle.unit_json.specs.declared.decode_mode.DecodeMode.TheVariants.{SliceBased, FrameBased}
+use Rattle.held_pictures.specs.Bounded.{most_room}
+use Rattle.unit_printing.specs.declared.json.decode_mode.DecodeMode.{DecodeMode}
+use Rattle.unit_printing.specs.declared.json.decode_mode.DecodeMode.TheVariants.{SliceBased, FrameBased}
 use Rattle.cli.specs.Bounds.{most_drawn, most_id, most_workers}
 use Rattle.cli.specs.declared.invocation.Invocation.{Invocation}
 use Rattle.cli.specs.declared.invocation.Invocation.TheVariants.{Audit, Check, Draw, DrawEdited, Mend, Plan, Run, Serve}

@@ -11,7 +11,7 @@ use Rattle.console_io.specs.declared.input.InputFault.{InputFault}
 use Rattle.draw_run.specs.EditedDrawings.{EndsBy as EndsEdited, WritesEdited, edits_fault_text}
 use Rattle.draw_run.specs.declared.fault.EditsFault.{EditsFault}
 use Rattle.draw_run.specs.Drawings.{EndsBy as EndsDrawing, WritesDrawing}
-use Rattle.unit_json.specs.Ends.{FailsJson, WritesJsonFor}
+use Rattle.unit_printing.specs.Ends.{FailsJson, WritesJsonFor}
 use Rattle.plan_stream.specs.Faults.{plan_fault_text}
 use Rattle.plan_stream.specs.Plans.{EndsBy, WritesPlan}
 use Rattle.plan_stream.specs.declared.fault.PlanFault.{PlanFault}
@@ -21,14 +21,14 @@ use Rattle.stream_mending.specs.Mending.{IsFrontOf}
 use Rattle.stream_mending.specs.declared.why.LeftOut.{LeftOut}
 use Rattle.mend_run.specs.Runs.{EndsBy as EndsMending, mend_fault_text, mend_lines, told_text}
 use Rattle.mend_run.specs.declared.running.MendFault.{MendFault}
-use Rattle.shared_run.specs.Audits.{FailsAudit, WritesAgreed}
-use Rattle.shared_run.specs.Running.{WritesScript as WritesSeatScript}
-use Rattle.shared_run.specs.Stops.{StopsBy as StopsSeatBy}
+use Rattle.script_run.specs.Audits.{FailsAudit, WritesAgreed}
+use Rattle.script_run.specs.SharedRunning.{WritesScript as WritesSeatScript}
+use Rattle.script_run.specs.SharedStops.{StopsBy as StopsSeatBy}
 use Rattle.script_run.specs.Messages.{run_fault_text}
 use Rattle.script_run.specs.Running.{WritesScript}
 use Rattle.script_run.specs.Stops.{StopsBy}
 use Rattle.script_run.specs.declared.run_fault.RunFault.{RunFault}
-use Rattle.unit_json.specs.declared.json_line.JsonLine.{JsonLine}
+use Rattle.unit_printing.specs.declared.json.json_line.JsonLine.{JsonLine}
 use Rattle.cli.specs.CommandLine.{HasOne, IsRequest, Wanted, audit, check, draw, draw_edited, faults_of, mend, plan, run, serve, wanted_in}
 use Rattle.edit_journal.specs.declared.fault.JournalFault.{JournalFault}
 use Rattle.serve_run.specs.Ends.{end_text, journal_fault_text}

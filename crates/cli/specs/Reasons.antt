@@ -2,10 +2,10 @@
 use Rattle.std.specs.Prelude.{◌≡◌, ◌⊎◌, ℕ, List, [], Option, None, Some}
 use Rattle.clap.specs.Words.{Text}
 use Rattle.console_io.specs.Inputs.{Files}
-use Rattle.failure_reasons.specs.Lines.{MayHaveFile}
+use Rattle.failure_reasons.specs.FailureReasonsLines.{MayHaveFile}
 use Rattle.failure_reasons.specs.Loads.{AreScriptLines}
-use Rattle.script_reasons.specs.declared.explaining.ScriptKind.{ScriptKind}
-use Rattle.script_reasons.specs.declared.explaining.ScriptKind.TheVariants.{Session, Seat, Edits}
+use Rattle.failure_reasons.specs.declared.script_reasons.explaining.ScriptKind.{ScriptKind}
+use Rattle.failure_reasons.specs.declared.script_reasons.explaining.ScriptKind.TheVariants.{Session, Seat, Edits}
 use Rattle.cli.specs.CommandLine.{Wanted, audit, check, draw, draw_edited, mend, plan, run, serve, wanted_in}
 
 -- what a script is for that is run in one thread, or beside so many workers

@@ -1,12 +1,12 @@
 //! What a command line asks for.
 
 ghost use Rattle.std.specs.Prelude.{◌≤◌};
-ghost use Rattle.picture_cache.specs.Bounded.{most_room};
+ghost use Rattle.held_pictures.specs.Bounded.{most_room};
 ghost use Rattle.cli.specs.Bounds.{most_workers};
 
 use draw_run::{Choice, EditedChoice};
 use script_run::Options;
-use unit_json::DecodeMode;
+use unit_printing::json::DecodeMode;
 
 /// The most workers that may be asked for.
 pub const MOST_WORKERS: usize = 64;

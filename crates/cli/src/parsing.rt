@@ -2,7 +2,7 @@
 
 ghost use Rattle.std.specs.Prelude.{◌≡◌, ◌≤◌, IfOk, IfSome, Some, codes, false, map, option_map};
 ghost use Rattle.clap.specs.Words.{FailsBy, app_of, found_of, rows_of, rule_of, subcommand_rows_of};
-ghost use Rattle.picture_cache.specs.Bounded.{most_room};
+ghost use Rattle.held_pictures.specs.Bounded.{most_room};
 ghost use Rattle.cli.specs.Bounds.{most_id, most_workers};
 ghost use Rattle.cli.specs.CommandLine.{audit_app, audit_in, cache_in, cache_rule, draw_app, draw_in, drawing, edits_rule, faults_of, flag_rule, from_in, from_rule, has_flag, needed_rule};
 ghost use Rattle.cli.specs.CommandLine.{number_of, option_rule, preview_app, run_app, run_in, several};

@@ -11,7 +11,7 @@ use plan_stream::plan_on;
 use std::alloc::Global;
 use std::io::Read;
 use std::thread::Threads;
-use unit_json::{DecodeMode, Json, plan_json_for};
+use unit_printing::json::{DecodeMode, Json, plan_json_for};
 
 /// Prints the plan of the stream that the name stands for, as JSON or in lines of text.
 pub(crate) fn plan_as<D: Directory, I: Read + Drop, W: Sink, E: Sink>(

@@ -8,7 +8,7 @@ use crate::invocation::Invocation;
 use crate::parsing::{flag, has_flag, needed};
 use clap::{Arg, ArgMatches, Command};
 use std::alloc::{AllocError, Global};
-use unit_json::DecodeMode;
+use unit_printing::json::DecodeMode;
 
 /// What the matches of `plan` ask for.
 pub(crate) fn read_plan<'a>(plan: &ArgMatches<'a>) -> Option<Invocation<'a>>

@@ -15,23 +15,23 @@ use crate::serving::serve_on;
 use crate::{Invocation, Workers, parse};
 use clap::Error;
 use clap::error::ErrorKind;
+use console_io::file_saving::Saving;
 use console_io::{
     Directory, Ended, Files, Sink, Status, open_input, say_input_fault, say_not_text,
     say_out_of_memory, write_bytes,
 };
 use draw_run::{Choice, EditedChoice, draw_edited, draw_on};
 use failure_reasons::Explain;
-use file_saving::Saving;
+use script_run::shared::{audit_with_workers, script_with_workers};
 use script_run::{Options, script_on};
 use session_journal::Journals;
-use shared_run::{audit_with_workers, script_with_workers};
 use std::alloc::Global;
 use std::convert::AsStr;
 use std::io;
 use std::io::Read;
 use std::sync::Wait;
 use std::thread::Threads;
-use unit_json::Json;
+use unit_printing::json::Json;
 
 /// Does what the process's words ask for; words that can't be read are a wrong command line.
 pub fn run<D: Directory + Explain + Saving + Journals, I: Read + Drop, W: Sink + Send, E: Sink>(

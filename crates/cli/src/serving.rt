@@ -8,9 +8,9 @@ ghost use Rattle.cli.specs.Programs.{FailsAt, IsDone};
 ghost use Rattle.serve_run.specs.Ends.{end_text};
 
 use crate::{Serving, Workers};
+use console_io::file_saving::Saving;
 use console_io::{Directory, Ended, Files, Sink, Status};
 use failure_reasons::Explain;
-use file_saving::Saving;
 use serve_run::{ServeEnd, say_end, say_journal_fault, serve_alone, serve_with_workers};
 use session_journal::{Journals, Step};
 use std::alloc::Global;

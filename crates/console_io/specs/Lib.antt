@@ -3,3 +3,4 @@ pub mod Inputs
 pub mod Messages
 pub mod Sinks
 pub mod Status
+pub mod Saved

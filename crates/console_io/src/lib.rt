@@ -7,6 +7,7 @@
 #![tactic(auto)]
 
 mod chunks;
+pub mod file_saving;
 mod input;
 mod messages;
 mod sink;

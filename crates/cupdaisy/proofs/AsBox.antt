@@ -6,8 +6,8 @@ use Rattle.std_alloc.proofs.BoxSteps.Form.{Bx}
 use Rattle.std_heap.specs.contracts.Global as Heap
 use Rattle.std_heap.specs.contracts.GlobalAllocator.TheImpl.{ghosts, dict}
 use Rattle.std_heap.proofs.Global.TheLaws as heap
-use Rattle.session_calls.specs.contracts.surface_session.SurfaceSession as Session
-use Rattle.session_calls.proofs.surface_session.SurfaceSession.TheLaws as session
+use Rattle.c_calls.specs.contracts.surface_session.SurfaceSession as Session
+use Rattle.c_calls.proofs.surface_session.SurfaceSession.TheLaws as session
 use Rattle.cupdaisy.specs.contracts.held.parts.Parts as Parts
 use Rattle.cupdaisy.specs.contracts.held.Held as Held
 

@@ -1,7 +1,7 @@
 -- What a call makes of a handle, which has a session or none.
 use Rattle.std.specs.Prelude.{◌≡◌, ℕ, Option, None, Some}
-use Rattle.session_calls.specs.Machines.{Machine}
-use Rattle.session_calls.specs.Statuses.{no_session}
+use Rattle.c_calls.specs.Machines.{Machine}
+use Rattle.c_calls.specs.Statuses.{no_session}
 
 -- without a session the call says so, tells nothing and changes nothing; else it does this with the
 -- session

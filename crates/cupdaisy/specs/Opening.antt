@@ -1,9 +1,9 @@
 -- Sessions that are opened and closed.
 use Rattle.std.specs.Prelude.{◌≡◌, ◌≤◌, ◌⊎◌, ℕ, Option, None, Some}
-use Rattle.picture_cache.specs.Bounded.{most_room}
-use Rattle.session_calls.specs.Machines.{Machine}
+use Rattle.held_pictures.specs.Bounded.{most_room}
+use Rattle.c_calls.specs.Machines.{Machine}
 use Rattle.stream_session.specs.Machines.{empty}
-use Rattle.session_calls.specs.Statuses.{cache_range, done, is_open, memory, no_session}
+use Rattle.c_calls.specs.Statuses.{cache_range, done, is_open, memory, no_session}
 
 -- a cache may have so much room
 abbrev pub IsRoom : ℕ → Type 0

@@ -7,7 +7,7 @@ use Rattle.std.specs.Coded.{coded_option}
 use Rattle.std.specs.Box.Ownership.{box_owns}
 use Rattle.std.specs.Global.{Global}
 use Rattle.std_heap.specs.contracts.GlobalAllocator.TheImpl.{ghosts}
-use Rattle.session_calls.specs.contracts.surface_session.SurfaceSession.{the_row}
+use Rattle.c_calls.specs.contracts.surface_session.SurfaceSession.{the_row}
 
 -- the state of a session, as contracts see it
 abbrev pub State : Type 0

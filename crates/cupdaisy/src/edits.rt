@@ -3,16 +3,16 @@
 ghost use Rattle.stream_edits.specs.Streams.{end_of};
 ghost use Rattle.stream_edits.specs.declared.edits.Edit.TheVariants.{Delete, Insert, Replace};
 ghost use Rattle.stream_edits.specs.declared.edits.Place.TheVariants.{After, First};
-ghost use Rattle.session_calls.specs.Editing.{EditsBy, EditsByCopy};
-ghost use Rattle.session_calls.specs.Grouping.{GroupsTo};
-ghost use Rattle.session_calls.specs.Loading.{LoadsTo};
+ghost use Rattle.c_calls.specs.Editing.{EditsBy, EditsByCopy};
+ghost use Rattle.c_calls.specs.Grouping.{GroupsTo};
+ghost use Rattle.c_calls.specs.Loading.{LoadsTo};
 ghost use Rattle.cupdaisy.specs.Calls.{Does, DoesTwo};
 
 use crate::Handle;
-use pictures::AuId;
-use session_calls::{
+use c_calls::{
     EditAsked, EditReceipt, GroupTold, LoadTold, NO_SESSION, delete, insert, insert_last, replace,
 };
+use h264_types::pictures::AuId;
 use std::alloc::Global;
 use stream_edits::Place;
 
@@ -139,7 +139,7 @@ pub extern "C" fn cupdaisy_group(
     let Some(mut inner) = session.take(alloc) else {
         return NO_SESSION;
     };
-    let status = session_calls::group(alloc, &mut inner, edits, texts, ids, receipt);
+    let status = c_calls::group(alloc, &mut inner, edits, texts, ids, receipt);
     session.put(inner);
     status
 }
@@ -158,7 +158,7 @@ pub extern "C" fn cupdaisy_load(
     let Some(mut inner) = session.take(alloc) else {
         return NO_SESSION;
     };
-    let status = session_calls::load(alloc, &mut inner, text, receipt);
+    let status = c_calls::load(alloc, &mut inner, text, receipt);
     session.put(inner);
     status
 }

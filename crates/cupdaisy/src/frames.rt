@@ -1,10 +1,10 @@
 //! The requests of whole pictures.
 
-ghost use Rattle.session_calls.specs.Frames.{FillsFrame, TellsFrame, slices_of_job, slices_of_unit};
+ghost use Rattle.c_calls.specs.Frames.{FillsFrame, TellsFrame, slices_of_job, slices_of_unit};
 ghost use Rattle.cupdaisy.specs.Calls.{Asks, AsksTwo};
 
 use crate::Handle;
-use session_calls::{FrameTold, NO_SESSION};
+use c_calls::{FrameTold, NO_SESSION};
 use std::alloc::Global;
 
 /// The request of the picture of the unit of the id, as the stream is now.
@@ -21,7 +21,7 @@ pub extern "C" fn cupdaisy_unit_frame(
     let Some(inner) = session.take(alloc) else {
         return NO_SESSION;
     };
-    let status = session_calls::unit_frame(&inner, id, frame);
+    let status = c_calls::unit_frame(&inner, id, frame);
     session.put(inner);
     status
 }
@@ -44,7 +44,7 @@ pub extern "C" fn cupdaisy_unit_frame_bytes(
     let Some(inner) = session.take(alloc) else {
         return NO_SESSION;
     };
-    let status = session_calls::unit_frame_bytes(alloc, &inner, id, start_codes, bytes, needed);
+    let status = c_calls::unit_frame_bytes(alloc, &inner, id, start_codes, bytes, needed);
     session.put(inner);
     status
 }
@@ -63,7 +63,7 @@ pub extern "C" fn cupdaisy_job_frame(
     let Some(inner) = session.take(alloc) else {
         return NO_SESSION;
     };
-    let status = session_calls::job_frame(&inner, job, frame);
+    let status = c_calls::job_frame(&inner, job, frame);
     session.put(inner);
     status
 }
@@ -86,7 +86,7 @@ pub extern "C" fn cupdaisy_job_frame_bytes(
     let Some(inner) = session.take(alloc) else {
         return NO_SESSION;
     };
-    let status = session_calls::job_frame_bytes(alloc, &inner, job, start_codes, bytes, needed);
+    let status = c_calls::job_frame_bytes(alloc, &inner, job, start_codes, bytes, needed);
     session.put(inner);
     status
 }

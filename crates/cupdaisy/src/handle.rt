@@ -3,7 +3,7 @@
 ghost use Rattle.std.specs.Prelude.{◌≡◌, None, Some, is_some, MatchOption};
 
 use crate::held::Held;
-use session_calls::SurfaceSession;
+use c_calls::SurfaceSession;
 use std::alloc::Global;
 use std::mem::replace;
 

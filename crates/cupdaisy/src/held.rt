@@ -5,8 +5,8 @@ ghost use Rattle.cupdaisy.specs.Ownership.{State, held_owns, state_coded};
 
 mod parts;
 
+use c_calls::SurfaceSession;
 use parts::Parts;
-use session_calls::SurfaceSession;
 use std::alloc::Global;
 use std::marker::Model;
 

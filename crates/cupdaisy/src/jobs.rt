@@ -1,14 +1,14 @@
 //! Jobs: pictures to decode.
 
 ghost use Rattle.std.specs.Prelude.{IfSome};
-ghost use Rattle.session_calls.specs.Jobs.{GivesBackTo, IsMadeFor, LandsTo, TakesForTo, TakesTo};
-ghost use Rattle.session_calls.specs.JobInputs.{input_told, reference_told};
-ghost use Rattle.session_calls.specs.Telling.{Tells};
+ghost use Rattle.c_calls.specs.Jobs.{GivesBackTo, IsMadeFor, LandsTo, TakesForTo, TakesTo};
+ghost use Rattle.c_calls.specs.JobInputs.{input_told, reference_told};
+ghost use Rattle.c_calls.specs.Telling.{Tells};
 ghost use Rattle.stream_session.specs.Taken.{input_of};
 ghost use Rattle.cupdaisy.specs.Calls.{Asks, Changes, Does};
 
 use crate::Handle;
-use session_calls::{JobInput, JobReference, JobTaken, NO_SESSION};
+use c_calls::{JobInput, JobReference, JobTaken, NO_SESSION};
 use std::alloc::Global;
 
 /// Takes a job.
@@ -20,7 +20,7 @@ pub extern "C" fn cupdaisy_take(alloc: Global, session: &mut Handle, job: &mut J
     let Some(mut inner) = session.take(alloc) else {
         return NO_SESSION;
     };
-    let status = session_calls::take(&mut inner, job);
+    let status = c_calls::take(&mut inner, job);
     session.put(inner);
     status
 }
@@ -39,7 +39,7 @@ pub extern "C" fn cupdaisy_take_for(
     let Some(mut inner) = session.take(alloc) else {
         return NO_SESSION;
     };
-    let status = session_calls::take_for(&mut inner, id, job);
+    let status = c_calls::take_for(&mut inner, id, job);
     session.put(inner);
     status
 }
@@ -55,7 +55,7 @@ pub extern "C" fn cupdaisy_land(alloc: Global, session: &mut Handle, job: u64, s
     let Some(mut inner) = session.take(alloc) else {
         return NO_SESSION;
     };
-    let status = session_calls::land(&mut inner, job, surface);
+    let status = c_calls::land(&mut inner, job, surface);
     session.put(inner);
     status
 }
@@ -69,7 +69,7 @@ pub extern "C" fn cupdaisy_give_back(alloc: Global, session: &mut Handle, job: u
     let Some(mut inner) = session.take(alloc) else {
         return NO_SESSION;
     };
-    let status = session_calls::give_back(&mut inner, job);
+    let status = c_calls::give_back(&mut inner, job);
     session.put(inner);
     status
 }
@@ -88,7 +88,7 @@ pub extern "C" fn cupdaisy_job_input_of(
     let Some(inner) = session.take(alloc) else {
         return NO_SESSION;
     };
-    let status = session_calls::job_input(&inner, job, input);
+    let status = c_calls::job_input(&inner, job, input);
     session.put(inner);
     status
 }
@@ -109,7 +109,7 @@ pub extern "C" fn cupdaisy_job_reference(
     let Some(inner) = session.take(alloc) else {
         return NO_SESSION;
     };
-    let status = session_calls::job_reference(&inner, job, index, reference);
+    let status = c_calls::job_reference(&inner, job, index, reference);
     session.put(inner);
     status
 }

@@ -1,14 +1,14 @@
 //! The journal.
 
 ghost use Rattle.std.specs.Prelude.{◌≡◌, length};
-ghost use Rattle.session_calls.specs.Journals.{FillsText, edit_in, edits_at, told_journal};
-ghost use Rattle.session_calls.specs.Requests.{told_as};
-ghost use Rattle.session_calls.specs.Statuses.{done};
-ghost use Rattle.session_calls.specs.Telling.{Tells};
+ghost use Rattle.c_calls.specs.Journals.{FillsText, edit_in, edits_at, told_journal};
+ghost use Rattle.c_calls.specs.Requests.{told_as};
+ghost use Rattle.c_calls.specs.Statuses.{done};
+ghost use Rattle.c_calls.specs.Telling.{Tells};
 ghost use Rattle.cupdaisy.specs.Calls.{Asks, AsksTwo};
 
 use crate::Handle;
-use session_calls::{JournalEdit, NO_SESSION};
+use c_calls::{JournalEdit, NO_SESSION};
 use std::alloc::Global;
 
 /// How many entries the journal has.
@@ -20,7 +20,7 @@ pub extern "C" fn cupdaisy_journal(alloc: Global, session: &mut Handle, entries:
     let Some(inner) = session.take(alloc) else {
         return NO_SESSION;
     };
-    let status = session_calls::journal(&inner, entries);
+    let status = c_calls::journal(&inner, entries);
     session.put(inner);
     status
 }
@@ -39,7 +39,7 @@ pub extern "C" fn cupdaisy_journal_entry(
     let Some(inner) = session.take(alloc) else {
         return NO_SESSION;
     };
-    let status = session_calls::journal_entry(&inner, entry, edits);
+    let status = c_calls::journal_entry(&inner, entry, edits);
     session.put(inner);
     status
 }
@@ -60,7 +60,7 @@ pub extern "C" fn cupdaisy_journal_edit_at(
     let Some(inner) = session.take(alloc) else {
         return NO_SESSION;
     };
-    let status = session_calls::journal_edit(&inner, entry, index, edit);
+    let status = c_calls::journal_edit(&inner, entry, index, edit);
     session.put(inner);
     status
 }
@@ -83,7 +83,7 @@ pub extern "C" fn cupdaisy_journal_text(
     let Some(inner) = session.take(alloc) else {
         return NO_SESSION;
     };
-    let status = session_calls::journal_text(&inner, entry, index, text, needed);
+    let status = c_calls::journal_text(&inner, entry, index, text, needed);
     session.put(inner);
     status
 }

@@ -1,12 +1,12 @@
 //! Marks of the stream, and the units that are altered since.
 
 ghost use Rattle.std.specs.Prelude.{ℕ, Result};
-ghost use Rattle.session_calls.specs.Marking.{IsAlteredTold, MarksTo};
-ghost use Rattle.session_calls.specs.Telling.{Tells};
+ghost use Rattle.c_calls.specs.Marking.{IsAlteredTold, MarksTo};
+ghost use Rattle.c_calls.specs.Telling.{Tells};
 ghost use Rattle.cupdaisy.specs.Calls.{Asks, Changes};
 
 use crate::Handle;
-use session_calls::NO_SESSION;
+use c_calls::NO_SESSION;
 use std::alloc::Global;
 
 /// Marks the stream as it is.
@@ -18,7 +18,7 @@ pub extern "C" fn cupdaisy_mark(alloc: Global, session: &mut Handle) -> u32
     let Some(mut inner) = session.take(alloc) else {
         return NO_SESSION;
     };
-    let status = session_calls::mark(&mut inner);
+    let status = c_calls::mark(&mut inner);
     session.put(inner);
     status
 }
@@ -38,7 +38,7 @@ pub extern "C" fn cupdaisy_is_altered(
     let Some(inner) = session.take(alloc) else {
         return NO_SESSION;
     };
-    let status = session_calls::is_altered(&inner, id, altered);
+    let status = c_calls::is_altered(&inner, id, altered);
     session.put(inner);
     status
 }

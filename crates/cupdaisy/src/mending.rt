@@ -1,8 +1,8 @@
 //! A text that is mended.
 
-ghost use Rattle.session_calls.specs.Mending.{MendsTo};
+ghost use Rattle.c_calls.specs.Mending.{MendsTo};
 
-use session_calls::LeftOutTold;
+use c_calls::LeftOutTold;
 use std::alloc::Global;
 
 /// Writes what stays of the text, and tells what is left out.
@@ -18,5 +18,5 @@ pub extern "C" fn cupdaisy_mend(
     ensures { MendsTo text.now result bytes.old bytes.new needed.old needed.new left_out.old
         left_out.new count.old count.new }
 {
-    session_calls::mend(alloc, text, bytes, needed, left_out, count)
+    c_calls::mend(alloc, text, bytes, needed, left_out, count)
 }

@@ -1,17 +1,17 @@
 //! Questions about the stream.
 
 ghost use Rattle.std.specs.Prelude.{◌≡◌, ℕ, length, Result};
-ghost use Rattle.session_calls.specs.Doubting.{TellsDoubts};
-ghost use Rattle.session_calls.specs.Finding.{IsAtPosition};
-ghost use Rattle.session_calls.specs.Keys.{IsKeyOf, TellsUse};
-ghost use Rattle.session_calls.specs.Showing.{ShowsTo};
-ghost use Rattle.session_calls.specs.Asking.{id_at, outcome_told, place_told, position_told};
-ghost use Rattle.session_calls.specs.Statuses.{done};
-ghost use Rattle.session_calls.specs.Telling.{Tells};
+ghost use Rattle.c_calls.specs.Doubting.{TellsDoubts};
+ghost use Rattle.c_calls.specs.Finding.{IsAtPosition};
+ghost use Rattle.c_calls.specs.Keys.{IsKeyOf, TellsUse};
+ghost use Rattle.c_calls.specs.Showing.{ShowsTo};
+ghost use Rattle.c_calls.specs.Asking.{id_at, outcome_told, place_told, position_told};
+ghost use Rattle.c_calls.specs.Statuses.{done};
+ghost use Rattle.c_calls.specs.Telling.{Tells};
 ghost use Rattle.cupdaisy.specs.Calls.{Asks, AsksTwo};
 
 use crate::Handle;
-use session_calls::{DoubtTold, NO_SESSION, UnitOutcome};
+use c_calls::{DoubtTold, NO_SESSION, UnitOutcome};
 use std::alloc::Global;
 
 /// How many units the stream has.
@@ -23,7 +23,7 @@ pub extern "C" fn cupdaisy_units(alloc: Global, session: &mut Handle, units: &mu
     let Some(inner) = session.take(alloc) else {
         return NO_SESSION;
     };
-    let status = session_calls::units(&inner, units);
+    let status = c_calls::units(&inner, units);
     session.put(inner);
     status
 }
@@ -42,7 +42,7 @@ pub extern "C" fn cupdaisy_id_at(
     let Some(inner) = session.take(alloc) else {
         return NO_SESSION;
     };
-    let status = session_calls::id_at(&inner, place, id);
+    let status = c_calls::id_at(&inner, place, id);
     session.put(inner);
     status
 }
@@ -61,7 +61,7 @@ pub extern "C" fn cupdaisy_place(
     let Some(inner) = session.take(alloc) else {
         return NO_SESSION;
     };
-    let status = session_calls::place(&inner, id, place);
+    let status = c_calls::place(&inner, id, place);
     session.put(inner);
     status
 }
@@ -81,7 +81,7 @@ pub extern "C" fn cupdaisy_position(
     let Some(inner) = session.take(alloc) else {
         return NO_SESSION;
     };
-    let status = session_calls::position(&inner, id, position);
+    let status = c_calls::position(&inner, id, position);
     session.put(inner);
     status
 }
@@ -101,7 +101,7 @@ pub extern "C" fn cupdaisy_unit_at(
     let Some(inner) = session.take(alloc) else {
         return NO_SESSION;
     };
-    let status = session_calls::unit_at(&inner, position, id);
+    let status = c_calls::unit_at(&inner, position, id);
     session.put(inner);
     status
 }
@@ -121,7 +121,7 @@ pub extern "C" fn cupdaisy_outcome_of(
     let Some(inner) = session.take(alloc) else {
         return NO_SESSION;
     };
-    let status = session_calls::outcome(&inner, id, outcome);
+    let status = c_calls::outcome(&inner, id, outcome);
     session.put(inner);
     status
 }
@@ -143,7 +143,7 @@ pub extern "C" fn cupdaisy_doubts(
     let Some(inner) = session.take(alloc) else {
         return NO_SESSION;
     };
-    let status = session_calls::doubts(&inner, from, doubts, count);
+    let status = c_calls::doubts(&inner, from, doubts, count);
     session.put(inner);
     status
 }
@@ -162,7 +162,7 @@ pub extern "C" fn cupdaisy_show(
     let Some(inner) = session.take(alloc) else {
         return NO_SESSION;
     };
-    let status = session_calls::show(&inner, id, surface);
+    let status = c_calls::show(&inner, id, surface);
     session.put(inner);
     status
 }
@@ -177,7 +177,7 @@ pub extern "C" fn cupdaisy_key(alloc: Global, session: &mut Handle, id: u32, key
     let Some(inner) = session.take(alloc) else {
         return NO_SESSION;
     };
-    let status = session_calls::key(&inner, id, key);
+    let status = c_calls::key(&inner, id, key);
     session.put(inner);
     status
 }
@@ -196,7 +196,7 @@ pub extern "C" fn cupdaisy_in_use(
     let Some(inner) = session.take(alloc) else {
         return NO_SESSION;
     };
-    let status = session_calls::in_use(&inner, key, in_use);
+    let status = c_calls::in_use(&inner, key, in_use);
     session.put(inner);
     status
 }

@@ -1,10 +1,10 @@
 //! Surfaces that go back to the host.
 
-ghost use Rattle.session_calls.specs.Releasing.{DropsTo, ReleasesTo, UncachesTo};
+ghost use Rattle.c_calls.specs.Releasing.{DropsTo, ReleasesTo, UncachesTo};
 ghost use Rattle.cupdaisy.specs.Calls.{Does, DoesTwo};
 
 use crate::Handle;
-use session_calls::NO_SESSION;
+use c_calls::NO_SESSION;
 use std::alloc::Global;
 
 /// Gives back the surface of the unit of the id.
@@ -21,7 +21,7 @@ pub extern "C" fn cupdaisy_drop_picture(
     let Some(mut inner) = session.take(alloc) else {
         return NO_SESSION;
     };
-    let status = session_calls::drop_picture(&mut inner, id, surface);
+    let status = c_calls::drop_picture(&mut inner, id, surface);
     session.put(inner);
     status
 }
@@ -35,7 +35,7 @@ pub extern "C" fn cupdaisy_uncache(alloc: Global, session: &mut Handle, surface:
     let Some(mut inner) = session.take(alloc) else {
         return NO_SESSION;
     };
-    let status = session_calls::uncache(&mut inner, surface);
+    let status = c_calls::uncache(&mut inner, surface);
     session.put(inner);
     status
 }
@@ -55,7 +55,7 @@ pub extern "C" fn cupdaisy_released(
     let Some(mut inner) = session.take(alloc) else {
         return NO_SESSION;
     };
-    let status = session_calls::released(&mut inner, surfaces, count);
+    let status = c_calls::released(&mut inner, surfaces, count);
     session.put(inner);
     status
 }

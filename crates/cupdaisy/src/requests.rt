@@ -1,12 +1,12 @@
 //! The requests of units and of jobs.
 
-ghost use Rattle.session_calls.specs.Requests.{FillsFrom, request_layout, request_of_job, request_of_unit, told_as, weights_of};
-ghost use Rattle.session_calls.specs.Telling.{Tells};
+ghost use Rattle.c_calls.specs.Requests.{FillsFrom, request_layout, request_of_job, request_of_unit, told_as, weights_of};
+ghost use Rattle.c_calls.specs.Telling.{Tells};
 ghost use Rattle.cupdaisy.specs.Calls.{Asks, AsksTwo};
 
 use crate::Handle;
-use linux_layouts::PredWeights;
-use session_calls::{NO_SESSION, SliceRequest};
+use c_calls::{NO_SESSION, SliceRequest};
+use frame_requests::layouts::PredWeights;
 use std::alloc::Global;
 
 /// The request of a slice of the unit of the id, as the stream is now.
@@ -25,7 +25,7 @@ pub extern "C" fn cupdaisy_unit_request(
     let Some(inner) = session.take(alloc) else {
         return NO_SESSION;
     };
-    let status = session_calls::unit_request(&inner, id, slice, request);
+    let status = c_calls::unit_request(&inner, id, slice, request);
     session.put(inner);
     status
 }
@@ -46,7 +46,7 @@ pub extern "C" fn cupdaisy_unit_weights(
     let Some(inner) = session.take(alloc) else {
         return NO_SESSION;
     };
-    let status = session_calls::unit_weights(&inner, id, slice, weights);
+    let status = c_calls::unit_weights(&inner, id, slice, weights);
     session.put(inner);
     status
 }
@@ -69,7 +69,7 @@ pub extern "C" fn cupdaisy_unit_bytes(
     let Some(inner) = session.take(alloc) else {
         return NO_SESSION;
     };
-    let status = session_calls::unit_bytes(&inner, id, slice, bytes, needed);
+    let status = c_calls::unit_bytes(&inner, id, slice, bytes, needed);
     session.put(inner);
     status
 }
@@ -90,7 +90,7 @@ pub extern "C" fn cupdaisy_job_request(
     let Some(inner) = session.take(alloc) else {
         return NO_SESSION;
     };
-    let status = session_calls::job_request(&inner, job, slice, request);
+    let status = c_calls::job_request(&inner, job, slice, request);
     session.put(inner);
     status
 }
@@ -111,7 +111,7 @@ pub extern "C" fn cupdaisy_job_weights(
     let Some(inner) = session.take(alloc) else {
         return NO_SESSION;
     };
-    let status = session_calls::job_weights(&inner, job, slice, weights);
+    let status = c_calls::job_weights(&inner, job, slice, weights);
     session.put(inner);
     status
 }
@@ -134,7 +134,7 @@ pub extern "C" fn cupdaisy_job_bytes(
     let Some(inner) = session.take(alloc) else {
         return NO_SESSION;
     };
-    let status = session_calls::job_bytes(&inner, job, slice, bytes, needed);
+    let status = c_calls::job_bytes(&inner, job, slice, bytes, needed);
     session.put(inner);
     status
 }

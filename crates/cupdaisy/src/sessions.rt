@@ -2,11 +2,11 @@
 
 ghost use Rattle.std.specs.Prelude.{◌≡◌, ◌⊎◌, MatchResult};
 ghost use Rattle.stream_session.specs.Machines.{empty};
-ghost use Rattle.session_calls.specs.Statuses.{cache_range, memory};
+ghost use Rattle.c_calls.specs.Statuses.{cache_range, memory};
 ghost use Rattle.cupdaisy.specs.Opening.{Closes, IsRoom, Opens};
 
 use crate::Handle;
-use session_calls::{CACHE_RANGE, DONE, IS_OPEN, MEMORY, NO_SESSION, SurfaceSession};
+use c_calls::{CACHE_RANGE, DONE, IS_OPEN, MEMORY, NO_SESSION, SurfaceSession};
 use std::alloc::Global;
 use stream_session::{Config, ConfigFault};
 

@@ -3,7 +3,7 @@ use Rattle.std.specs.Prelude.{◌≡◌, refl, ℕ, List, [], ◌∷◌, ◌++�
 use Rattle.std.proofs.Common.{◌∙◌, sym, ap, subst, append_assoc}
 use Rattle.std.proofs.lemmas.List.{append-nil}
 use Rattle.h264_controls.specs.declared.work.Work.{Work}
-use Rattle.dep_keys.specs.Trees.Tree.{Bare, Gap, With}
+use Rattle.decode_jobs.specs.Trees.Tree.{Bare, Gap, With}
 use Rattle.decode_jobs.specs.Inputs.{InputValue, picture_of_frame}
 use Rattle.decode_jobs.specs.Keys.{Key, works_of, named_by_all, tree_with}
 

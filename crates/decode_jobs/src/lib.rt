@@ -6,9 +6,11 @@
 #![tactic(auto)]
 
 mod decoded;
+pub mod dep_keys;
 mod input;
 mod job;
 mod same;
+pub mod surfaces;
 
 pub use decoded::Decoded;
 pub use input::{Input, Reference, picture_of_frame};

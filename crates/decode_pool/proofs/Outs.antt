@@ -29,8 +29,8 @@ use Rattle.stream_session.specs.Grouping.{AnswersGroup}
 use Rattle.stream_session.specs.Machines.{Machine, AnswersEdit, empty, store_of, uncached}
 use Rattle.stream_session.specs.Jobs.{AnswersGiveBack, AnswersLand, AnswersTake}
 use Rattle.stream_session.specs.Needing.{AnswersDrop, AnswersReleased, AnswersTakeFor, AnswersUncache}
-use Rattle.edit_engine.specs.declared.dropping.Dropping.{Dropping}
-use Rattle.edit_engine.specs.declared.dropping.Dropping.TheVariants as dropping
+use Rattle.stand_in_session.specs.declared.dropping.Dropping.{Dropping}
+use Rattle.stand_in_session.specs.declared.dropping.Dropping.TheVariants as dropping
 use Rattle.worker_jobs.specs.Taking.{AnswersTakeFirst}
 use Rattle.worker_jobs.specs.Counts.{TakesFirstIn, TakesIn}
 use Rattle.worker_jobs.specs.declared.tally.Tally.{Tally}

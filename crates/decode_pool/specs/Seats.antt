@@ -10,12 +10,12 @@ use Rattle.stream_edits.specs.declared.refusals.EditRefused.{EditRefused}
 use Rattle.stream_edits.specs.declared.refusals.EditRefused.TheVariants as refusals
 use Rattle.stand_in_device.specs.KeyPictures.{IsPicture}
 use Rattle.stand_in_device.specs.declared.picture.Picture.{Picture}
-use Rattle.edit_engine.specs.declared.dropping.Dropping.{Dropping}
-use Rattle.edit_engine.specs.Showing.{Shown, Shows}
+use Rattle.stand_in_session.specs.declared.dropping.Dropping.{Dropping}
+use Rattle.stand_in_session.specs.Showing.{Shown, Shows}
 use Rattle.stream_session.specs.Grouping.{AnswersGroup}
-use Rattle.edit_engine.specs.Machines.{Machine}
+use Rattle.stand_in_session.specs.Machines.{Machine}
 use Rattle.stream_session.specs.Machines.{AnswersEdit}
-use Rattle.edit_engine.specs.Needing.{AnswersDrop}
+use Rattle.stand_in_session.specs.Needing.{AnswersDrop}
 use Rattle.seat_books.specs.declared.receipts.SeatReceipt.{SeatReceipt}
 use Rattle.seat_books.specs.declared.receipts.SeatReceipt.TheVariants as receipts
 use Rattle.decode_pool.specs.declared.seat.Seat.{Seat}

@@ -12,9 +12,9 @@ use Rattle.stream_session.specs.Grouping.{AnswersGroup}
 use Rattle.stream_session.specs.Machines as sessions
 use Rattle.stream_session.specs.Needing as needing
 use Rattle.stream_session.specs.Showing.{Shows}
-use Rattle.edit_engine.specs.declared.dropping.Dropping.{Dropping}
-use Rattle.edit_engine.specs.Machines.{Machine}
-use Rattle.edit_engine.specs.Needing.{AnswersDrop}
+use Rattle.stand_in_session.specs.declared.dropping.Dropping.{Dropping}
+use Rattle.stand_in_session.specs.Machines.{Machine}
+use Rattle.stand_in_session.specs.Needing.{AnswersDrop}
 use Rattle.decode_pool.specs.Waits.{IsReached}
 
 -- an edit is answered by a session, which no clause can name; where pictures go back to the host,

@@ -4,8 +4,8 @@ ghost use Rattle.decode_pool.specs.Appends.{AppendsSome};
 
 use crate::seat::Seat;
 use crate::stand_in::Desk;
-use edit_engine::EditRefused;
 use picture_keys::HashedUnit;
+use stand_in_session::EditRefused;
 use std::sync::Wait;
 
 /// How far units were inserted.

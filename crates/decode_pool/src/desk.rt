@@ -7,7 +7,7 @@ ghost use Rattle.decode_pool.specs.Waits.{WaitsForOne, WaitsForUnit};
 
 use crate::state::{DeskState, Settled};
 use decode_jobs::Decoded;
-use pictures::AuId;
+use h264_types::pictures::AuId;
 use std::alloc::{AllocError, Global};
 use std::sync::{Condvar, Mutex, MutexGuard, Wait};
 use stream_session::{Config, Session};

@@ -6,7 +6,7 @@ ghost use Rattle.decode_pool.specs.Numbers.{number_of};
 
 use crate::seat::Seat;
 use crate::stand_in::Desk;
-use edit_engine::JournalEntry;
+use stand_in_session::JournalEntry;
 use std::alloc::AllocError;
 use thiserror::Error;
 

@@ -10,8 +10,8 @@ use crate::faults::{FinishFault, Unfinished};
 use crate::gathering::{are_all_noted, are_numbered, books_of};
 use crate::seat::Seat;
 use crate::stand_in::Desk;
-use edit_engine::{JournalEntry, Session};
 use seat_books::{AuditFault, audit, copy_of_entry};
+use stand_in_session::{JournalEntry, Session};
 use std::alloc::{AllocError, Global};
 use std::sync::Mutex;
 

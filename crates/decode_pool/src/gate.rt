@@ -5,8 +5,8 @@ ghost use Rattle.stand_in_device.specs.KeyPictures.{IsMade};
 
 use crate::stand_in::Desk;
 use crate::working::work_with;
-use edit_engine::{Finished, Job};
 use stand_in_device::{Device, Picture, Undone};
+use stand_in_session::{Finished, Job};
 use std::alloc::Global;
 use std::sync::Wait;
 use worker_jobs::{Decoder, Made, Worked};

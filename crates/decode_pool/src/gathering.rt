@@ -6,8 +6,8 @@ ghost use Rattle.seat_books.specs.Books.{is_noted};
 ghost use Rattle.decode_pool.specs.Finishing.{AreBooksOf, AreEachOnce, AreNumbered, AreWithin, IsBookOf, seats_of};
 
 use crate::seat::Seat;
-use edit_engine::JournalEntry;
 use seat_books::{SeatBook, noted_lengths};
+use stand_in_session::JournalEntry;
 use std::alloc::{AllocError, Global};
 
 /// Whether the seats have the numbers from 1 to how many were opened, each once.

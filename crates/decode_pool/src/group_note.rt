@@ -3,9 +3,9 @@
 ghost use Rattle.std.specs.Prelude.{◌≡◌, ◌≤◌, [], length, IfOk};
 ghost use Rattle.std.specs.Vec.{vec_capacity};
 
-use edit_engine::Edit;
-use pictures::AuId;
+use h264_types::pictures::AuId;
 use seat_books::{NotedGroup, copy_of_edits};
+use stand_in_session::Edit;
 use std::alloc::{AllocError, Global};
 
 /// A group's edits, and room for as many ids.

@@ -4,18 +4,18 @@ ghost use Rattle.std.specs.Prelude.{◌≡◌, ◌≤◌, [], length, IfOk};
 ghost use Rattle.stream_edits.specs.Groups.{IsSized, most_edits};
 ghost use Rattle.stream_edits.specs.Streams.{last_of};
 ghost use Rattle.stream_session.specs.Grouping.{AnswersGroup};
-ghost use Rattle.edit_engine.specs.Showing.{Shows};
+ghost use Rattle.stand_in_session.specs.Showing.{Shows};
 ghost use Rattle.decode_pool.specs.Seats.{AnswersDropIn, AnswersEditIn, DropsOne, EditsGroupOne, EditsOne, IsLastOfOne, NotesDrop, NotesEdit, NotesGroup, NotesShow, ShowsOne, WaitsForOne};
 
 use crate::group_note::GroupNote;
 use crate::stand_in::Desk;
 use crate::state::Settled;
-use edit_engine::{
+use h264_types::pictures::AuId;
+use seat_books::{SeatBook, SeatReceipt};
+use stand_in_session::{
     Dropping, Edit, EditRefused, GroupReceipt, GroupRefused, Last, ReadEdit, ReadGroup, Receipt,
     Session, Shown, drop_picture,
 };
-use pictures::AuId;
-use seat_books::{SeatBook, SeatReceipt};
 use std::alloc::{AllocError, Global};
 use std::sync::Wait;
 

@@ -7,9 +7,9 @@ ghost use Rattle.decode_pool.specs.Visits.{AsksOne, DropsOne};
 
 use crate::desk::DeskOf;
 use crate::seat::Seat;
-use edit_engine::{Config, Dropping, Session};
-use pictures::AuId;
+use h264_types::pictures::AuId;
 use stand_in_device::Picture;
+use stand_in_session::{Config, Dropping, Session};
 use std::alloc::{AllocError, Global};
 use std::sync::Wait;
 use stream_session::Dropped;

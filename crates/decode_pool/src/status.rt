@@ -4,7 +4,7 @@ ghost use Rattle.std.specs.Prelude.{◌≡◌, ◌+◌, ◌<◌, ◌≤◌, fals
 ghost use Rattle.std.specs.Bool.{Decides};
 ghost use Rattle.worker_jobs.specs.Wanted.{all_units};
 
-use pictures::AuId;
+use h264_types::pictures::AuId;
 use worker_jobs::Wanted;
 
 /// Threads that sleep, and how many of them were told to wake up and haven't yet. One that awakes

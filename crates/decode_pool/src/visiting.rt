@@ -6,12 +6,12 @@ ghost use Rattle.decode_pool.specs.Visits.{DropsSome, EditsGroupSome, EditsSome,
 
 use crate::desk::DeskOf;
 use decode_jobs::Decoded;
-use pictures::AuId;
+use h264_types::pictures::AuId;
 use std::alloc::{AllocError, Global};
 use std::sync::Wait;
+use stream_edits::snapshots::ReadSnapshot;
 use stream_edits::{EditRefused, GroupReceipt, GroupRefused, ReadEdit, ReadGroup, Receipt};
 use stream_session::{Config, Dropped, Session, Shown};
-use stream_snapshot::ReadSnapshot;
 
 impl<P: Decoded> DeskOf<P> {
     /// Edits the session by an edit whose text is read, while no one else edits it or asks.

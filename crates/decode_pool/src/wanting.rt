@@ -6,7 +6,7 @@ ghost use Rattle.decode_pool.specs.Seats.{WaitsForUnit};
 use crate::seat::Seat;
 use crate::stand_in::Desk;
 use crate::state::Settled;
-use pictures::AuId;
+use h264_types::pictures::AuId;
 use std::sync::Wait;
 use worker_jobs::TooManyWanted;
 

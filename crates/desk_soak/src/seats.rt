@@ -2,8 +2,8 @@
 
 use bytes::Bytes;
 use decode_pool::{Desk, Seat};
-use edit_engine::{Edit, Place};
-use pictures::AuId;
+use h264_types::pictures::AuId;
+use stand_in_session::{Edit, Place};
 use std::sync::Wait;
 use test_builders::Draws;
 

@@ -3,8 +3,8 @@
 use crate::load::Load;
 use crate::seats::Drawing;
 use decode_pool::{Desk, FinishFault, Seat, Settled, finish, worker};
-use edit_engine::Config;
 use stand_in_device::Device;
+use stand_in_session::Config;
 use std::alloc::{AllocError, Global};
 use std::sync::Wait;
 use std::thread;

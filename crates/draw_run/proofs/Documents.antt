@@ -1,8 +1,8 @@
 -- The document of a stream that was folded.
 use Rattle.std.proofs.Common.{◌≡◌, ◌∙◌, ℕ, ◌++◌, List, [], length, false, Option, ap, subst, sym}
 use Rattle.std.proofs.lemmas.List.{append-nil}
-use Rattle.doubts.specs.InDoubt.{AreDoubts, IdsDiffer}
-use Rattle.doubts.specs.SeenUnits.{SeenUnit}
+use Rattle.unit_outcomes.specs.InDoubt.{AreDoubts, IdsDiffer}
+use Rattle.unit_outcomes.specs.SeenUnits.{SeenUnit}
 use Rattle.output_order.specs.OutputOrder.{positions_of}
 use Rattle.plan_stream.proofs.Positions.{same_positions}
 use Rattle.plan_stream.proofs.Streams.{length-numbered_from}

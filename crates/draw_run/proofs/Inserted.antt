@@ -8,14 +8,14 @@ use Rattle.annexb.proofs.Readings.{same_reading}
 use Rattle.access_unit.specs.Answers.{IsAccepted}
 use Rattle.plan_stream.specs.Streams.{numbered_from}
 use Rattle.plan_stream.proofs.Streams.{length-numbered_from, numbered_from-push}
-use Rattle.edit_engine.specs.Machines.{OutValue, Machine}
+use Rattle.stand_in_session.specs.Machines.{OutValue, Machine}
 use Rattle.stream_edits.specs.declared.edits.Edit.TheVariants.{Insert}
 use Rattle.stream_edits.specs.declared.edits.Place.{Place}
 use Rattle.stream_edits.specs.declared.receipts.Receipt.{Receipt}
 use Rattle.stream_edits.specs.Edits.{Register}
 use Rattle.stream_edits.specs.Streams.{Stream, ids_of, start_of}
 use Rattle.stream_session.specs.Machines.{Edits, store_of}
-use Rattle.key_slots.specs.Left.{ArePut, IsLeft}
+use Rattle.held_pictures.specs.Left.{ArePut, IsLeft}
 use Rattle.decode_jobs.specs.Keys.{Key}
 use Rattle.picture_keys.specs.Known.{keys_of}
 use Rattle.picture_store.specs.Stores.{IsInUse}

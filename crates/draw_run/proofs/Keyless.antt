@@ -13,7 +13,7 @@ use Rattle.stream_edits.specs.Streams.{Stream, ids_of, place_of}
 use Rattle.stream_session.specs.Altered.{IsAltered}
 use Rattle.stream_session.specs.Showing.{HasKey, keys_in}
 use Rattle.stream_session.specs.Streams.{outcome_in}
-use Rattle.edit_engine.specs.Machines.{Machine}
+use Rattle.stand_in_session.specs.Machines.{Machine}
 
 some_same : {X : Type 0} (a b : X) → Some a ≡ Some b → a ≡ b
 some_same a b is = cc

@@ -7,13 +7,13 @@ use Rattle.decode_jobs.specs.Keys.{Key}
 use Rattle.picture_keys.specs.Known.{key_of, keys_of, known_after}
 use Rattle.picture_store.specs.Jobs.{IsSameJob}
 use Rattle.picture_store.specs.Pending.{IsPending}
-use Rattle.edit_engine.specs.Machines.{OutValue, StoreValue, Machine}
+use Rattle.stand_in_session.specs.Machines.{OutValue, StoreValue, Machine}
 use Rattle.picture_store.specs.declared.answers.Landing.{Landing}
 use Rattle.picture_store.specs.declared.answers.Landing.TheVariants as landings
 use Rattle.stand_in_device.specs.Jobs.{JobValue}
 use Rattle.stream_edits.specs.Edits.{Register}
 use Rattle.stream_edits.specs.Streams.{ids_of, place_of}
-use Rattle.edit_engine.specs.Jobs.{AnswersTake, AnswersLand}
+use Rattle.stand_in_session.specs.Jobs.{AnswersTake, AnswersLand}
 use Rattle.stream_session.specs.Machines.{store_of}
 use Rattle.stream_session.specs.Needing.{IsAnyOutFor, IsPendingIn}
 use Rattle.picture_store.specs.Stores.{IsInUse}

@@ -1,3 +1,4 @@
+pub mod Once
 pub mod Chosen
 pub mod FoldSteps
 mod Documents

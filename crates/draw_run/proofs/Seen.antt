@@ -1,16 +1,16 @@
 -- The units of a stream as doubts see them, and a walk over them.
 use Rattle.std.proofs.Common.{◌≡◌, ◌∙◌, ◌⊎◌, inl, ℕ, zero, suc, ◌+◌, Bool, List, [], ◌∷◌, ◌++◌, length, Some, slice_get, subst, ap, sym, refl, append_assoc, arith, length-append}
 use Rattle.std.proofs.lemmas.Option.{same_Some}
-use Rattle.doubts.specs.InDoubt.{AreDoubts, IdsDiffer, IsDoubt}
-use Rattle.doubts.specs.SeenUnits.{HasId, IsIdrAt, SeenUnit}
-use Rattle.doubts.specs.Walks.{IsBefore}
-use Rattle.doubts.specs.declared.doubt.Doubt.{Doubt}
-use Rattle.doubts.specs.declared.walk.Walk.{Walk}
-use Rattle.doubts.proofs.Columns.{told_more, told_none}
+use Rattle.unit_outcomes.specs.InDoubt.{AreDoubts, IdsDiffer, IsDoubt}
+use Rattle.unit_outcomes.specs.SeenUnits.{HasId, IsIdrAt, SeenUnit}
+use Rattle.unit_outcomes.specs.Walks.{IsBefore}
+use Rattle.unit_outcomes.specs.declared.doubts.doubt.Doubt.{Doubt}
+use Rattle.unit_outcomes.specs.declared.doubts.walk.Walk.{Walk}
+use Rattle.unit_outcomes.proofs.Columns.{told_more, told_none}
 use Rattle.unit_outcomes.specs.declared.outcome.Outcome.{Outcome}
 use Rattle.plan_stream.specs.Streams.{numbered_from}
 use Rattle.stream_edits.specs.Streams.{Stream}
-use Rattle.doubts.specs.References.{is_of_reference}
+use Rattle.unit_outcomes.specs.References.{is_of_reference}
 use Rattle.stream_session.specs.Doubting.{seen_with}
 use Rattle.draw_run.specs.Folds.{AreWalked}
 use Rattle.draw_run.proofs.Pointwise.{get-middle}

@@ -8,15 +8,15 @@ use Rattle.plan_stream.specs.declared.fault.PlanFault.{PlanFault}
 use Rattle.plan_stream.specs.declared.fault.PlanFault.TheVariants.{Unread, Refused, Memory, Unwritten}
 use Rattle.request_core.specs.Fold.{outcomes_of}
 use Rattle.output_order.specs.OutputOrder.{positions_of}
-use Rattle.doubts.specs.InDoubt.{AreDoubts}
-use Rattle.doubts.specs.declared.doubt.Doubt.{Doubt}
+use Rattle.unit_outcomes.specs.InDoubt.{AreDoubts}
+use Rattle.unit_outcomes.specs.declared.doubts.doubt.Doubt.{Doubt}
 use Rattle.stream_session.specs.Doubting.{seen_in}
 use Rattle.plan_stream.specs.Streams.{numbered_from}
 use Rattle.stream_svg.specs.Pages.{document_text}
 use Rattle.stream_svg.specs.declared.caption.Caption.{Caption}
 use Rattle.stream_svg.specs.declared.layout.Layout.{Layout}
 use Rattle.stream_svg.specs.declared.unit.DrawnUnit.{DrawnUnit}
-use Rattle.unit_lines.specs.Refusals.{refusal_text}
+use Rattle.unit_printing.specs.Refusals.{refusal_text}
 use Rattle.draw_run.specs.Layouts.{IsLaidOut}
 use Rattle.draw_run.specs.Chosen.{chosen, kept_from}
 use Rattle.draw_run.specs.Shown.{AreShown}

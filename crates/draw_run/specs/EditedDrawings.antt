@@ -5,22 +5,22 @@ use Rattle.access_unit.specs.Rooms.{IsStreamRefused, most_units}
 use Rattle.access_unit.specs.declared.room.Refusal.{Refusal}
 use Rattle.console_io.specs.Chunks.{AppendsFront}
 use Rattle.console_io.specs.Messages.{out_of_memory}
-use Rattle.edit_engine.specs.Machines.{Machine}
+use Rattle.stand_in_session.specs.Machines.{Machine}
 use Rattle.edit_script.specs.EditScripts.{HasFirstWrongForEdits, IsEditScript}
 use Rattle.edit_script.specs.declared.edit_commands.EditCommand.{EditCommand}
 use Rattle.edit_script.specs.declared.script.ScriptFault.{ScriptFault}
 use Rattle.edit_script.specs.declared.script.ScriptFault.TheVariants as scripts
 use Rattle.script_run.specs.Messages.{script_fault_text}
 use Rattle.stream_edits.specs.Streams.{ids_of}
-use Rattle.doubts.specs.InDoubt.{AreDoubts}
-use Rattle.doubts.specs.declared.doubt.Doubt.{Doubt}
+use Rattle.unit_outcomes.specs.InDoubt.{AreDoubts}
+use Rattle.unit_outcomes.specs.declared.doubts.doubt.Doubt.{Doubt}
 use Rattle.stream_session.specs.Altered.{with_mark}
 use Rattle.stream_session.specs.Doubting.{seen_in}
 use Rattle.stream_svg.specs.Pages.{document_text}
 use Rattle.stream_svg.specs.declared.caption.Caption.{Caption}
 use Rattle.stream_svg.specs.declared.layout.Layout.{Layout}
 use Rattle.stream_svg.specs.declared.unit.DrawnUnit.{DrawnUnit}
-use Rattle.unit_lines.specs.Refusals.{refusal_text}
+use Rattle.unit_printing.specs.Refusals.{refusal_text}
 use Rattle.draw_run.specs.Layouts.{IsLaidOut}
 use Rattle.draw_run.specs.Choosing.{chosen_ids, start_among}
 use Rattle.draw_run.specs.Loading.{IsHeld}

@@ -1,10 +1,10 @@
 -- The fold over a stream's units, and what is kept of them for a drawing.
 use Rattle.std.specs.Prelude.{◌≡◌, ℕ, List, length, map, ◌++◌}
-use Rattle.doubts.specs.InDoubt.{AreDoubts, IdsDiffer}
-use Rattle.doubts.specs.SeenUnits.{SeenUnit}
-use Rattle.doubts.specs.Walks.{IsBefore}
-use Rattle.doubts.specs.declared.doubt.Doubt.{Doubt}
-use Rattle.doubts.specs.declared.walk.Walk.{Walk}
+use Rattle.unit_outcomes.specs.InDoubt.{AreDoubts, IdsDiffer}
+use Rattle.unit_outcomes.specs.SeenUnits.{SeenUnit}
+use Rattle.unit_outcomes.specs.Walks.{IsBefore}
+use Rattle.unit_outcomes.specs.declared.doubts.doubt.Doubt.{Doubt}
+use Rattle.unit_outcomes.specs.declared.doubts.walk.Walk.{Walk}
 use Rattle.request_core.specs.States.{no_units}
 use Rattle.request_core.specs.Fold.{outcomes_of}
 use Rattle.request_core.specs.Agreement.{state_from}

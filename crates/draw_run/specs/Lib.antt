@@ -1,3 +1,6 @@
+pub mod Kinds
+pub mod Lists
+pub mod Units
 pub mod Chosen
 pub mod Doubts
 pub mod Shown

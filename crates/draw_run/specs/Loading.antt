@@ -5,7 +5,7 @@ use Rattle.plan_stream.specs.Streams.{numbered_from}
 use Rattle.decode_jobs.specs.Keys.{Key}
 use Rattle.picture_store.specs.Stores.{IsInUse}
 use Rattle.stream_session.specs.Machines.{store_of}
-use Rattle.edit_engine.specs.Machines.{Machine}
+use Rattle.stand_in_session.specs.Machines.{Machine}
 use Rattle.draw_run.specs.Marks.{HoldsAll}
 use Rattle.draw_run.specs.declared.fault.EditsFault.{EditsFault}
 use Rattle.draw_run.specs.declared.fault.EditsFault.TheVariants.{Script, Refused, Memory, Unwritten}

@@ -6,7 +6,7 @@ use Rattle.stream_edits.specs.declared.receipts.GroupReceipt.{GroupReceipt}
 use Rattle.stream_edits.specs.declared.receipts.Receipt.{Receipt}
 use Rattle.stream_edits.specs.declared.refusals.EditRefused.{EditRefused}
 use Rattle.stream_session.specs.Grouping.{AnswersGroup}
-use Rattle.edit_engine.specs.Machines.{Machine}
+use Rattle.stand_in_session.specs.Machines.{Machine}
 use Rattle.stream_session.specs.Machines.{AnswersEdit}
 use Rattle.edit_script.specs.declared.edit_commands.EditCommand.{EditCommand}
 use Rattle.edit_script.specs.declared.edit_commands.EditCommand.TheVariants as commands

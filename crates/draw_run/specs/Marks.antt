@@ -1,7 +1,7 @@
 -- What edits did to the units of a stream, as a drawing shows it.
 use Rattle.std.specs.Prelude.{◌≡◌, ◌↔◌, ℕ, IsTrue, List, length, Option, None, Some, Contains, slice_get}
 use Rattle.decode_jobs.specs.Keys.{Key}
-use Rattle.edit_engine.specs.Machines.{Machine}
+use Rattle.stand_in_session.specs.Machines.{Machine}
 use Rattle.stream_session.specs.Altered.{IsAltered}
 use Rattle.stream_session.specs.Needing.{IsPendingIn}
 use Rattle.stream_session.specs.Showing.{HasKey}
@@ -12,7 +12,7 @@ use Rattle.stream_svg.specs.declared.unit.PictureState.TheVariants.{Stayed, Pend
 use Rattle.stream_svg.specs.declared.caption.Caption.{Caption}
 use Rattle.stream_svg.specs.declared.unit.DrawnUnit.{DrawnUnit}
 use Rattle.unit_outcomes.specs.declared.outcome.Outcome.{Outcome}
-use Rattle.doubts.specs.declared.doubt.Doubt.{Doubt}
+use Rattle.unit_outcomes.specs.declared.doubts.doubt.Doubt.{Doubt}
 use Rattle.draw_run.specs.Shown.{IsShownBy}
 
 -- all pictures are held: no unit is pending

@@ -1,13 +1,13 @@
 -- Units as they are drawn, each with what is said of it (docs/OUTPUT.md).
 use Rattle.std.specs.Prelude.{◌≡◌, ℕ, ◌++◌, List, length, Option, None, Some, slice_get}
-use Rattle.doubts.specs.declared.doubt.Doubt.{Doubt}
+use Rattle.unit_outcomes.specs.declared.doubts.doubt.Doubt.{Doubt}
 use Rattle.unit_outcomes.specs.declared.outcome.Outcome.{Outcome}
-use Rattle.unit_lines.specs.UnitLines.{outcome_lines}
+use Rattle.unit_printing.specs.UnitLines.{outcome_lines}
 use Rattle.stream_svg.specs.Captions.{lines_of}
 use Rattle.stream_svg.specs.declared.caption.Caption.{Caption}
 use Rattle.stream_svg.specs.declared.unit.DrawnUnit.{DrawnUnit}
 use Rattle.stream_svg.specs.declared.unit.EditMark.{EditMark}
-use Rattle.unit_drawing.specs.Units.{IsUnitOf}
+use Rattle.draw_run.specs.Units.{IsUnitOf}
 use Rattle.draw_run.specs.Chosen.{position_in}
 use Rattle.draw_run.specs.Doubts.{doubt_in, doubt_line}
 use Rattle.draw_run.specs.declared.drawn_fold.KeptUnit.{KeptUnit}

@@ -1,7 +1,7 @@
 //! The document of a stream after edits.
 
 ghost use Rattle.std.specs.Prelude.{◌≡◌, ◌<◌, ◌≤◌, ◌+◌, IfOk, IfSome, length, string_bytes, take, drop};
-ghost use Rattle.edit_engine.specs.Machines.{Machine};
+ghost use Rattle.stand_in_session.specs.Machines.{Machine};
 ghost use Rattle.stream_edits.specs.Streams.{place_among};
 ghost use Rattle.stream_session.specs.Altered.{with_mark};
 ghost use Rattle.draw_run.specs.Choosing.{start_among};
@@ -11,9 +11,9 @@ ghost use Rattle.draw_run.specs.Making.{AreMade};
 use crate::edited_choice::EditedChoice;
 use crate::edits::make_edits;
 use crate::shown::shown_units;
-use edit_engine::Session;
 use edit_script::EditCommand;
-use pictures::AuId;
+use h264_types::pictures::AuId;
+use stand_in_session::Session;
 use std::alloc::{AllocError, Global};
 use stream_svg::{document, lay_out};
 

@@ -3,11 +3,11 @@
 ghost use Rattle.std.specs.Prelude.{◌≡◌, ◌++◌, OnOk, Some, string_bytes};
 ghost use Rattle.draw_run.specs.Doubts.{doubt_in, doubt_line, follows_line, follows_words};
 
-use doubts::Doubt;
-use pictures::AuId;
+use h264_types::pictures::AuId;
 use std::alloc::AllocError;
 use std::fmt;
 use std::fmt::{Display, Formatter, Write};
+use unit_outcomes::doubts::Doubt;
 
 /// What is told of the unit with an id, in a stream whose ids are 1, 2, 3 and so on, of all that is
 /// told of it.

@@ -7,13 +7,13 @@ ghost use Rattle.draw_run.specs.Shown.{AreShown, IsShownBy};
 
 use crate::doubt_line::{add_doubt, doubt_in};
 use crate::drawn_fold::KeptUnit;
-use doubts::Doubt;
-use pictures::AuId;
+use crate::unit_drawing::drawn_unit;
+use h264_types::pictures::AuId;
 use std::alloc::{AllocError, Global};
 use stream_svg::{Caption, DrawnUnit, EditMark};
-use unit_drawing::drawn_unit;
-use unit_lines::UnitLines;
 use unit_outcomes::Outcome;
+use unit_outcomes::doubts::Doubt;
+use unit_printing::lines::UnitLines;
 
 /// Units that are drawn, each with what is said of it.
 #[derive(Drop)]

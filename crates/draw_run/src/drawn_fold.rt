@@ -2,19 +2,19 @@
 
 ghost use Rattle.std.specs.Prelude.{◌≡◌, ◌≢◌, ◌⊎◌, ◌+◌, ◌<◌, ◌≤◌, ◌++◌, [], ◌∷◌, List, length, IfOk, OnOk, true, false, vec_len};
 ghost use Rattle.access_unit.specs.Rooms.{most_units};
-ghost use Rattle.doubts.specs.References.{is_of_reference};
+ghost use Rattle.unit_outcomes.specs.References.{is_of_reference};
 ghost use Rattle.draw_run.specs.Chosen.{chosen};
 ghost use Rattle.draw_run.specs.declared.drawn_fold.KeptUnit.{KeptUnit as KeptUnitValue};
 
 use crate::choice::Choice;
 use access_unit::Unit;
-use doubts::{Doubt, Walk};
-use pictures::AuId;
+use h264_types::pictures::AuId;
 use plan_stream::{UnitFold, shown_of};
 use request_core::{State, Steps, step};
 use std::alloc::{AllocError, Global};
 use std::mem::replace;
 use unit_outcomes::Outcome;
+use unit_outcomes::doubts::{Doubt, Walk};
 
 /// The fold over the units so far, with what is kept of those that are drawn.
 #[derive(Drop)]

@@ -15,9 +15,9 @@ use crate::settling::settle;
 use access_unit::Refusal;
 use bytes::Bytes;
 use console_io::{Ended, PrintFault, Sink, Status, write_bytes};
-use edit_engine::Session;
 use edit_script::{EditCommand, read_edit_script};
 use plan_stream::print_refusal;
+use stand_in_session::Session;
 use std::alloc::Global;
 use std::thread::Threads;
 

@@ -5,9 +5,9 @@ ghost use Rattle.draw_run.specs.Making.{AreMade, Makes, line_words};
 ghost use Rattle.script_run.specs.Answers.{refused_line};
 ghost use Rattle.script_run.specs.GroupLines.{group_refused_line};
 
-use edit_engine::{Edit, EditRefused, GroupRefused, Session};
 use edit_script::EditCommand;
 use script_run::{GroupRefusedLine, RefusedLine};
+use stand_in_session::{Edit, EditRefused, GroupRefused, Session};
 use std::alloc::{AllocError, Global};
 use std::fmt;
 use std::fmt::{Display, Formatter, Write};

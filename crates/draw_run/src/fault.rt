@@ -7,9 +7,9 @@ ghost use Rattle.draw_run.specs.declared.fault.EditsFault.TheVariants.{Memory};
 
 use access_unit::Refusal;
 use console_io::{PrintFault, Sink};
-use edit_engine::TakeRefused;
 use edit_script::ScriptFault;
 use script_run::{RunFault, say_run_fault};
+use stand_in_session::TakeRefused;
 use std::alloc::AllocError;
 
 /// Why a stream isn't drawn after edits.

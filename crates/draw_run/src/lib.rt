@@ -21,6 +21,7 @@ mod fault;
 mod loading;
 mod settling;
 mod shown;
+pub mod unit_drawing;
 
 pub use choice::Choice;
 pub use draw::draw_on;

@@ -7,8 +7,8 @@ ghost use Rattle.stream_edits.specs.Streams.{start_of};
 use crate::fault::EditsFault;
 use access_unit::{MOST_UNITS, ReadFault, read_units};
 use bytes::Bytes;
-use edit_engine::{Config, ReadEdit, Session};
 use picture_keys::{HashedUnit, hash_units};
+use stand_in_session::{Config, ReadEdit, Session};
 use std::alloc::{AllocError, Global};
 use std::thread::Threads;
 

@@ -6,8 +6,8 @@ ghost use Rattle.picture_store.specs.declared.refusals.TakeRefused.TheVariants.{
 ghost use Rattle.draw_run.specs.Loading.{KeepsRest};
 ghost use Rattle.draw_run.specs.Marks.{HoldsAll};
 
-use edit_engine::{Job, Session, TakeRefused};
 use stand_in_device::{Device, Finished, Undone};
+use stand_in_session::{Job, Session, TakeRefused};
 use std::alloc::{AllocError, Global};
 
 /// Takes jobs and lands their results, one after the other, until no picture is due; or why none is

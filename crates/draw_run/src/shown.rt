@@ -5,8 +5,8 @@ ghost use Rattle.stream_session.specs.Altered.{IsAltered};
 ghost use Rattle.draw_run.specs.Marks.{AreShownAs, IsShownAs, IsStateOf};
 
 use crate::drawn::{ShownUnits, shown_by};
-use edit_engine::{Doubt, Session, Shown};
-use pictures::AuId;
+use h264_types::pictures::AuId;
+use stand_in_session::{Doubt, Session, Shown};
 use std::alloc::{AllocError, Global};
 use stream_svg::{Caption, DrawnUnit, EditMark, PictureState};
 

@@ -13,11 +13,11 @@ mod told;
 mod trees;
 
 use drawing::draw;
-use edit_engine::{Config, Dropping, Landing, Session};
 use hands::Hands;
 use looks::{Names, agree};
 use plain::Plain;
 use stand_in_device::Device;
+use stand_in_session::{Config, Dropping, Landing, Session};
 use std::alloc::{AllocError, Global};
 use test_builders::Draws;
 use told::Answer;

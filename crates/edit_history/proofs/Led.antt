@@ -6,7 +6,7 @@ use Rattle.std.proofs.lemmas.List.{map-append, take-map, drop-map, length-map, g
 use Rattle.stream_edits.specs.declared.edits.Edit.TheVariants.{Insert, Delete, Replace}
 use Rattle.stream_edits.specs.declared.edits.Place.{Place}
 use Rattle.stream_edits.specs.Edits.{Register, Inserts, Deletes, Replaces, most_ids}
-use Rattle.changed_units.specs.Units.{AreDifferent}
+use Rattle.picture_keys.specs.Units.{AreDifferent}
 use Rattle.stream_edits.specs.Streams.{Stream, ids_of, place_among, start_among}
 use Rattle.stream_edits.proofs.GivenIds.{AreDifferent-ids, HasIds-made}
 use Rattle.stream_edits.proofs.LastId.{found_at}

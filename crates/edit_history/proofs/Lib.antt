@@ -2,3 +2,12 @@ pub mod Carried
 pub mod Led
 pub mod Changed
 pub mod Errors
+pub mod One
+pub mod Lists
+pub mod Followed
+pub mod UndoRedoLed
+pub mod Rechanged
+pub mod Stepped
+pub mod Refused
+pub mod Snapshots
+pub mod TextUnder

@@ -7,13 +7,13 @@ ghost use Rattle.edit_history.specs.Groups.{Leads, LeadsAll};
 ghost use Rattle.edit_history.specs.Refusals.{IsRefusedFor};
 ghost use Rattle.edit_history.specs.Texts.{IsStream, Texts};
 ghost use Rattle.stream_edits.specs.Edits.{Register};
-ghost use Rattle.changed_units.specs.Units.{AreDifferent};
+ghost use Rattle.picture_keys.specs.Units.{AreDifferent};
 ghost use Rattle.stream_edits.specs.Streams.{start_among};
 
 use crate::changes::Change;
 use crate::refusals::NotUndone;
 use bytes::Bytes;
-use pictures::AuId;
+use h264_types::pictures::AuId;
 use std::alloc::{AllocError, Global};
 use stream_edits::{Edit, Place};
 

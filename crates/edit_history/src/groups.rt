@@ -11,7 +11,7 @@ ghost use Rattle.stream_edits.specs.Edits.{Register};
 use crate::changes::Change;
 use crate::draft::Draft;
 use crate::refusals::NotUndone;
-use pictures::AuId;
+use h264_types::pictures::AuId;
 use std::alloc::{AllocError, Global};
 use stream_edits::Edit;
 

@@ -12,7 +12,7 @@ ghost use Rattle.stream_edits.specs.Edits.{Register};
 use crate::changes::Change;
 use crate::groups::{StepGroup, copies_of, group_of, inverse_of};
 use crate::refusals::NotUndone;
-use pictures::AuId;
+use h264_types::pictures::AuId;
 use std::alloc::{AllocError, Global};
 
 /// What one edit, group or load changed.

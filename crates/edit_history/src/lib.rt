@@ -16,6 +16,7 @@ mod draft;
 mod groups;
 mod history;
 mod refusals;
+pub mod undo_redo;
 
 pub use changes::Change;
 pub use groups::StepGroup;

@@ -2,7 +2,7 @@
 
 use crate::{Change, History, NotUndone, StepGroup};
 use bytes::Bytes;
-use pictures::AuId;
+use h264_types::pictures::AuId;
 use std::alloc::{AllocError, Global};
 use std::test::Fail;
 use stream_edits::{Edit, Place};

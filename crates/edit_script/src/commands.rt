@@ -8,8 +8,8 @@ ghost use Rattle.edit_script.specs.Commands.{edit_of, ids_of_words, insertion_of
 ghost use Rattle.edit_script.specs.declared.commands.LineFault.TheVariants.{Memory};
 
 use bytes::Bytes;
+use h264_types::pictures::AuId;
 use hex::FromHexError;
-use pictures::AuId;
 use std::alloc::{AllocError, AllocFailed, Global};
 use stream_edits::{Edit, Place};
 

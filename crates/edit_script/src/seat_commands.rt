@@ -6,7 +6,7 @@ ghost use Rattle.edit_script.specs.SeatScripts.{of_seat};
 use crate::commands::Command;
 use crate::kinds::{Kind, read_kind};
 use crate::script::ScriptFault;
-use pictures::AuId;
+use h264_types::pictures::AuId;
 use std::alloc::Global;
 use stream_edits::Edit;
 

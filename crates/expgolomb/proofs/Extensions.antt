@@ -4,7 +4,7 @@ use Rattle.std.specs.List.{AllByRecursion}
 use Rattle.expgolomb.specs.Bits.{Place}
 use Rattle.expgolomb.specs.Codes.{Follows}
 use Rattle.expgolomb.specs.Grammar.{Code, Fixed, Unsigned, Signed, MoreData, HasCode, IsTooLongAt, Row}
-use Rattle.base_types.specs.Chains.{◌>>=◌}
+use Rattle.h264_types.specs.Chains.{◌>>=◌}
 use Rattle.expgolomb.specs.TableReading.{field_at, rows_at}
 use Rattle.expgolomb.proofs.Tables.{field_found, field_only, field_fault, fault_field}
 use Rattle.expgolomb.specs.Structures.{Table, Syntax, Says, Here, Structure, followed_by, counted, end_or, ended, table_at, syntax_at}

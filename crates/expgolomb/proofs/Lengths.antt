@@ -5,7 +5,7 @@ use Rattle.std.specs.List.{AllByRecursion}
 use Rattle.expgolomb.specs.Bits.{Place}
 use Rattle.expgolomb.specs.Codes.{Follows, IsUe, IsCut}
 use Rattle.expgolomb.specs.Grammar.{Code, Fixed, Unsigned, Signed, MoreData, HasCode, Row, FieldHasFault}
-use Rattle.base_types.specs.Chains.{◌>>=◌}
+use Rattle.h264_types.specs.Chains.{◌>>=◌}
 use Rattle.expgolomb.specs.TableReading.{field_at, rows_at}
 use Rattle.expgolomb.proofs.Tables.{field_found, field_fault}
 

@@ -2,7 +2,7 @@
 use Rattle.std.proofs.Common.{◌≡◌, ℕ, zero, suc, true, false, List, [], ◌∷◌, ◌++◌, replicate, Ok, Err, ℤ, refl, ◌∙◌, ap}
 use Rattle.expgolomb.specs.Bits.{Place}
 use Rattle.expgolomb.specs.Grammar.{Row}
-use Rattle.base_types.specs.Chains.{◌>>=◌}
+use Rattle.h264_types.specs.Chains.{◌>>=◌}
 use Rattle.expgolomb.specs.TableReading.{field_at, rows_at}
 use Rattle.expgolomb.proofs.Tables.{rows_append}
 

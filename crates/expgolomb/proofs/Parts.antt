@@ -2,7 +2,7 @@
 use Rattle.std.proofs.Common.{◌≡◌, Bool, true, false, cond, List, [], ◌∷◌, map, Result, Ok, Err, ℤ, refl, ◌∙◌}
 use Rattle.expgolomb.specs.Bits.{Place}
 use Rattle.expgolomb.specs.Grammar.{Row}
-use Rattle.base_types.specs.Chains.{◌>>=◌}
+use Rattle.h264_types.specs.Chains.{◌>>=◌}
 use Rattle.expgolomb.specs.TableReading.{field_at, rows_at}
 use Rattle.expgolomb.specs.Rows.{within}
 use Rattle.expgolomb.proofs.Loops.{rows_pass, rows_none}

@@ -2,7 +2,7 @@
 use Rattle.std.proofs.Common.{List, ℕ, suc, Bool, true, false, [], ◌∷◌, ◌++◌, Option, Some, None, ◌≡◌, Result, Ok, Err, refl, sym, ◌∙◌, ap, inl, inr, ◌⊎◌}
 use Rattle.expgolomb.specs.Bits.{Place}
 use Rattle.expgolomb.proofs.ExpGolomb.{ok_is}
-use Rattle.base_types.specs.Chains.{◌>>=◌}
+use Rattle.h264_types.specs.Chains.{◌>>=◌}
 use Rattle.expgolomb.proofs.Tables.{rows_found, rows_only, rows_fault, fault_rows}
 use Rattle.expgolomb.specs.Structures.{Table, Syntax, Says, Here, Structure, followed_by, counted, ended, HasTable, HasSyntax, SyntaxHasFault, table_at, syntax_at}
 

@@ -10,7 +10,7 @@ use Rattle.expgolomb.proofs.Signed.{se_ok, se_only, se_is_not, se_error}
 use Rattle.expgolomb.proofs.FixedCodes.{fixed_ok, fixed_only, fixed_cut_is, fixed_never_long}
 use Rattle.expgolomb.proofs.ExpGolomb.{fixed_short}
 use Rattle.expgolomb.specs.Grammar.{Code, Fixed, Unsigned, Signed, MoreData, HasCode, IsCutAt, IsTooLongAt, Row, Header, values, HasRows, FieldHasFault, HasFault}
-use Rattle.base_types.specs.Chains.{◌>>=◌}
+use Rattle.h264_types.specs.Chains.{◌>>=◌}
 use Rattle.expgolomb.specs.TableReading.{unsigned, code_at, in_range, checked, value_at, field_at, rows_at}
 
 -- an unsigned value was read as a number

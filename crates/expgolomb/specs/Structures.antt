@@ -3,7 +3,7 @@ use Rattle.std.specs.Prelude.{◌≡◌, ℕ, zero, suc, Bool, true, false, List
 use Rattle.expgolomb.specs.Bits.{Place}
 use Rattle.expgolomb.specs.Grammar.{Row, Header, values, HasRows, HasFault}
 use Rattle.expgolomb.specs.TableReading.{rows_at}
-use Rattle.base_types.specs.Chains.{◌>>=◌}
+use Rattle.h264_types.specs.Chains.{◌>>=◌}
 
 -- A syntax structure: what its fields say, its rows, and what is inferred of fields that stay absent.
 pub record Table (F S E : Type 0) : Type 0 where

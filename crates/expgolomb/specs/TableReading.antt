@@ -5,7 +5,7 @@ use Rattle.expgolomb.specs.declared.fault.CodeFault.{CodeFault}
 use Rattle.expgolomb.specs.declared.fault.CodeFault.TheVariants.{Cut, TooLong}
 use Rattle.expgolomb.specs.Bits.{Place}
 use Rattle.expgolomb.specs.Reading.{fixed_at, ue_at, se_at}
-use Rattle.base_types.specs.Chains.{◌>>=◌}
+use Rattle.h264_types.specs.Chains.{◌>>=◌}
 use Rattle.expgolomb.specs.Grammar.{Code, Fixed, Unsigned, Signed, MoreData, Row}
 
 abbrev pub unsigned : {E : Type 0} → Result (ℕ × Place) E → Result (ℤ × Place) E

@@ -1,1 +1,4 @@
+mod Found
+pub mod Fronts
+mod Texts
 mod Lines

@@ -3,7 +3,7 @@ use Rattle.std.proofs.Common.{◌≡◌, ◌<◌, ◌+◌, ℕ, List, [], ◌∷
 use Rattle.std.proofs.lemmas.List.{map_more, take-map}
 use Rattle.console_io.specs.Inputs.{Files}
 use Rattle.edit_script.specs.Words.{texts_of}
-use Rattle.failure_reasons.specs.Lines.{AreFileLines, MayHaveLoad}
+use Rattle.failure_reasons.specs.FailureReasonsLines.{AreFileLines, MayHaveLoad}
 
 -- a lent text
 abbrev pub text_of : Bor (List ℕ) → List ℕ

@@ -1,63 +1,53 @@
--- What is said behind a failure, on standard error (docs/OUTPUT.md).
-use Rattle.std.specs.Prelude.{◌≡◌, ◌++◌, ◌⊎◌, ⊤, ℕ, List, [], ◌∷◌, codes, Option, Some, IfSome}
-use Rattle.console_io.specs.Inputs.{Files}
-use Rattle.file_reasons.specs.Files.{IsReasonFor, refused_file}
-use Rattle.file_reasons.specs.declared.file_reason.FileReason.{FileReason}
-use Rattle.failure_reasons.specs.declared.streams.FileLine.{FileLine}
-use Rattle.failure_reasons.specs.declared.streams.FileLine.TheVariants.{Read, Unread}
-use Rattle.script_reasons.specs.Lines.{wrong_line}
-use Rattle.script_reasons.specs.Telling.{HasFirstWrong}
-use Rattle.script_reasons.specs.declared.explaining.ScriptKind.{ScriptKind}
+-- Why a line of a script is no command, in words.
+use Rattle.std.specs.Prelude.{◌==◌, ◌||◌, ◌++◌, ◌-◌, ℕ, Bool, List, [], ◌∷◌, codes, decimal, Option, Some, None, slice_get, unwrap_or, if◌then◌else◌}
+use Rattle.std.specs.List.{list_any}
+use Rattle.std.specs.Option.{option_or}
+use Rattle.std.specs.Str.{is_utf8}
+use Rattle.edit_script.specs.Scripts.{lines_of}
+use Rattle.edit_script.specs.Words.{words_of}
+use Rattle.failure_reasons.specs.Forms.{alone_form, beside_form, common_form, edit_form}
+use Rattle.failure_reasons.specs.declared.script_reasons.reason.LineReason.{LineReason}
+use Rattle.failure_reasons.specs.declared.script_reasons.reason.LineReason.TheVariants.{NotText, Blank, NoWord, NoCommand, Form}
 
--- that the file of a name can't be read, in the system's words
-abbrev pub unread_file : List ℕ → List ℕ → List ℕ
-unread_file name words = name ++ (codes ": " ++ (words ++ (codes "; see: preview check " ++ (name ++ codes "\n"))))
+-- how the command of this name is written
+abbrev pub form_of : List ℕ → Option (List ℕ)
+form_of name = option_or (edit_form name) (option_or (common_form name) (option_or (alone_form name) (beside_form name)))
 
--- that the file of a name, which a script loads, can't be: a name there isn't one beside the script
-abbrev pub unread_load : List ℕ → List ℕ → List ℕ
-unread_load name words =
-    name ++ (codes ": " ++ (words ++ (codes "; relative paths in a script start at the working directory; see: preview check "
-    ++ (name ++ codes "\n"))))
+-- that no command has this name
+abbrev pub no_command : List ℕ → List ℕ
+no_command name = codes "no command \"" ++ (name ++ codes "\"")
 
--- that the script of a name can't be
-abbrev pub unread_script : List ℕ → List ℕ → List ℕ
-unread_script name words = name ++ (codes ": " ++ (words ++ codes "\n"))
+-- why words aren't a command of a script, by the first of them
+abbrev pub words_reason : List (List ℕ) → List ℕ
+words_reason [] = codes "spaces alone are no command"
+words_reason (name ∷ words) = unwrap_or (form_of name) (no_command name)
 
--- the line says why the file of a name isn't taken by its text, where that is known: it is no stream or
--- is refused
-abbrev pub IsRefusedLine : Option (List ℕ) → List ℕ → List ℕ → Type 0
-IsRefusedLine known name line =
-    (reason : FileReason) × IfSome known (IsReasonFor (Some reason)) × (line ≡ refused_file name reason)
+-- whether there is a tab or a carriage return
+abbrev pub has_blank : List ℕ → Bool
+has_blank line = list_any (λ byte. byte == 9) line || list_any (λ byte. byte == 13) line
 
--- the line says why the file of a name isn't taken: it can't be read, or by its text
-abbrev pub IsFileLine : Option (List ℕ) → List ℕ → List ℕ → Type 0
-IsFileLine known name line = ((words : List ℕ) × (line ≡ unread_file name words)) ⊎ IsRefusedLine known name line
+-- why a line isn't one
+abbrev pub line_reason : List ℕ → List ℕ
+line_reason line =
+    if is_utf8 line then (if has_blank line then codes "a tab or a carriage return is no space" else words_reason (words_of line))
+    else codes "the line isn't UTF-8"
 
--- that line, or none
-abbrev pub MayHaveFile : Option (List ℕ) → List ℕ → List ℕ → Type 0
-MayHaveFile known name line = (line ≡ []) ⊎ IsFileLine known name line
+-- the sentence of a reason
+abbrev pub reason_text : LineReason → List ℕ
+reason_text NotText = codes "the line isn't UTF-8"
+reason_text Blank = codes "a tab or a carriage return is no space"
+reason_text NoWord = codes "spaces alone are no command"
+reason_text (NoCommand name) = no_command name.now
+reason_text (Form sentence) = sentence.now
 
--- the line says so of a file that a script loads
-abbrev pub IsLoadLine : Option (List ℕ) → List ℕ → List ℕ → Type 0
-IsLoadLine known name line = ((words : List ℕ) × (line ≡ unread_load name words)) ⊎ IsRefusedLine known name line
+-- the line of a text that has this number, from 1
+abbrev pub line_at : List ℕ → ℕ → Option (List ℕ)
+line_at text number = slice_get (lines_of text) (number - 1)
 
--- that line, or none
-abbrev pub MayHaveLoad : Option (List ℕ) → List ℕ → List ℕ → Type 0
-MayHaveLoad known name line = (line ≡ []) ⊎ IsLoadLine known name line
+-- what is said of the line that has this number
+abbrev pub line_text : ℕ → List ℕ → List ℕ
+line_text number reason = codes "line " ++ (decimal number ++ (codes ": " ++ (reason ++ codes "\n")))
 
--- what is said of the file of a name: a line by its text or none, where it can be read
-abbrev pub IsSaidOf : Option (List ℕ) → List ℕ → FileLine → Type 0
-IsSaidOf known name (Read line) = (line.items ≡ []) ⊎ IsRefusedLine known name line.items
-IsSaidOf known name (Unread error) = ⊤
-
--- lines for the files of these names, which a script loads, one after the other; each may have none
-abbrev pub AreFileLines : Files → List (List ℕ) → List ℕ → Type 0
-AreFileLines files [] lines = lines ≡ []
-AreFileLines files (name ∷ names) lines =
-    (first : List ℕ) × (rest : List ℕ) × MayHaveLoad (files name) name first
-    × AreFileLines files names rest × (lines ≡ first ++ rest)
-
--- the line says why the first wrong line of a script of this text is no command, or there is none
-abbrev pub MayHaveWrong : ScriptKind → List ℕ → List ℕ → Type 0
-MayHaveWrong kind text line =
-    (line ≡ []) ⊎ ((number : ℕ) × HasFirstWrong kind text number × (line ≡ wrong_line text number))
+-- why the line of this number isn't a command of a script of this text
+abbrev pub wrong_line : List ℕ → ℕ → List ℕ
+wrong_line text number = line_text number (line_reason (unwrap_or (line_at text number) []))

@@ -8,9 +8,9 @@ use Rattle.edit_script.specs.declared.seat_commands.SeatCommand.{SeatCommand}
 use Rattle.edit_script.specs.declared.seat_commands.SeatCommand.TheVariants as seat
 use Rattle.edit_script.specs.declared.session_commands.SessionCommand.{SessionCommand}
 use Rattle.edit_script.specs.declared.session_commands.SessionCommand.TheVariants as session
-use Rattle.script_reasons.specs.declared.explaining.ScriptKind.{ScriptKind}
-use Rattle.script_reasons.specs.declared.explaining.ScriptKind.TheVariants.{Session, Seat, Edits}
-use Rattle.failure_reasons.specs.Lines.{AreFileLines, MayHaveWrong, unread_script}
+use Rattle.failure_reasons.specs.declared.script_reasons.explaining.ScriptKind.{ScriptKind}
+use Rattle.failure_reasons.specs.declared.script_reasons.explaining.ScriptKind.TheVariants.{Session, Seat, Edits}
+use Rattle.failure_reasons.specs.FailureReasonsLines.{AreFileLines, MayHaveWrong, unread_script}
 
 -- the name of the file that a command of a session loads
 abbrev pub session_load : SessionCommand → Option (List ℕ)

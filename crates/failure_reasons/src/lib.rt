@@ -10,16 +10,18 @@
 
 mod again;
 mod explain;
+pub mod file_reasons;
 mod loads;
 mod noted;
+pub mod script_reasons;
 mod scripts;
 mod streams;
 mod unread;
 mod watched;
 
+pub use crate::script_reasons::ScriptKind;
 pub use again::Again;
 pub use explain::Explain;
-pub use script_reasons::ScriptKind;
 pub use scripts::{edited_lines, script_lines};
 pub use streams::stream_lines;
 pub use watched::Watched;

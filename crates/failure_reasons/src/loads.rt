@@ -5,10 +5,10 @@ ghost use Rattle.std.specs.List.{filter_map};
 ghost use Rattle.edit_script.specs.Words.{texts_of};
 ghost use Rattle.failure_reasons.specs.Loads.{seat_load, session_load, LoadsFiles};
 
+use crate::script_reasons::ScriptKind;
 use edit_script::{
     ScriptFault, SeatCommand, SessionCommand, read_seat_script, read_session_script,
 };
-use script_reasons::ScriptKind;
 use std::alloc::{AllocError, Global};
 
 /// The names of the files that the script of this text loads.

@@ -3,18 +3,18 @@
 ghost use Rattle.std.specs.Prelude.{◌≡◌, ◌≤◌, ◌⊎◌, [], ℕ, codes, length, take, true, IfOk};
 ghost use Rattle.std.specs.Str.{bytes_eq};
 ghost use Rattle.edit_script.specs.Words.{texts_of};
-ghost use Rattle.failure_reasons.specs.Lines.{AreFileLines, MayHaveFile, MayHaveLoad, MayHaveWrong};
+ghost use Rattle.failure_reasons.specs.FailureReasonsLines.{AreFileLines, MayHaveFile, MayHaveLoad, MayHaveWrong};
 ghost use Rattle.failure_reasons.specs.Loads.{AreLoadLines, AreScriptLines, AreTextLines};
-ghost use Rattle.script_reasons.specs.declared.explaining.ScriptKind.TheVariants.{Edits};
+ghost use Rattle.failure_reasons.specs.declared.script_reasons.explaining.ScriptKind.TheVariants.{Edits};
 
 use crate::again::Again;
 use crate::loads::loads;
 use crate::noted::Noted;
+use crate::script_reasons::{ScriptKind, explain_script};
 use crate::streams::{FileLine, file_line, stream_lines};
 use crate::unread::{unread_load_line, unread_script_line};
 use console_io::{InputFault, whole_input};
 use edit_script::ScriptFault;
-use script_reasons::{ScriptKind, explain_script};
 use std::alloc::{AllocError, Global};
 
 /// Why the script of this name isn't taken, in a line; or, where it is, lines for the files that it

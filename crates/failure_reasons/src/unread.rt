@@ -1,7 +1,7 @@
 //! The lines that say why a file or a script can't be read, in the system's words.
 
 ghost use Rattle.std.specs.Prelude.{◌≡◌, ℕ, List, Some, IfOk};
-ghost use Rattle.failure_reasons.specs.Lines.{unread_file, unread_load, unread_script};
+ghost use Rattle.failure_reasons.specs.FailureReasonsLines.{unread_file, unread_load, unread_script};
 
 use std::alloc::{AllocError, Global};
 use std::fmt;

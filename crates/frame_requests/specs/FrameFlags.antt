@@ -1,8 +1,8 @@
 -- The flags of a picture's decode parameters (linux/v4l2-controls.h, V4L2_H264_DECODE_PARAM_FLAG_*; ITU-T H.264, table 7-6).
 use Rattle.std.specs.Prelude.{ℕ, ◌+◌, ◌&&◌, Bool, true, false, not, List}
 use Rattle.std.specs.List.{list_any}
-use Rattle.slice_header_types.specs.declared.slice_types.SliceType.{SliceType}
-use Rattle.slice_header_types.specs.declared.slice_types.SliceType.TheVariants.{P, B}
+use Rattle.h264_types.specs.declared.slice_headers.slice_types.SliceType.{SliceType}
+use Rattle.h264_types.specs.declared.slice_headers.slice_types.SliceType.TheVariants.{P, B}
 use Rattle.h264_controls.specs.declared.request.Request.{Request}
 use Rattle.param_set_controls.specs.Words.{flag}
 use Rattle.frame_requests.specs.declared.flags.FrameFlags.{FrameFlags}

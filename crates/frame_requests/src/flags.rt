@@ -5,8 +5,8 @@ ghost use Rattle.std.specs.List.{list_any};
 ghost use Rattle.frame_requests.specs.FrameFlags.{frame_flags, frame_flags_number, is_b, is_p};
 
 use h264_controls::Request;
+use h264_types::slice_headers::SliceType;
 use param_set_controls::words::flag;
-use slice_header_types::SliceType;
 
 /// V4L2_H264_DECODE_PARAM_FLAG_* of a whole picture, without those that only fields have: FIELD_PIC
 /// and BOTTOM_FIELD.

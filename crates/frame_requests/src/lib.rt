@@ -8,6 +8,7 @@
 
 mod flags;
 mod joining;
+pub mod layouts;
 mod request;
 
 pub use flags::FrameFlags;

@@ -4,8 +4,8 @@ ghost use Rattle.std.specs.Prelude.{◌≡◌, IfOk};
 ghost use Rattle.frame_requests.specs.FrameRequests.{frame_of, frame_request};
 
 use crate::flags::FrameFlags;
-use base_types::Shared;
 use h264_controls::{References, Request, SetControls, V4l2CtrlH264DecodeParams};
+use h264_types::base::Shared;
 use std::alloc::AllocError;
 
 /// The request of a picture: three controls of its parameter sets, and its decode parameters. There

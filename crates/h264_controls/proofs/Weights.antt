@@ -1,7 +1,7 @@
 -- The weights of a list, filled entry by entry.
 use mathlib.Core.Path.{Path}
 use Rattle.std.proofs.Common.{◌≡◌, ℕ, ◌+◌, ◌<◌, Bool, List, [], ◌∷◌, ℤ, pos, refl}
-use Rattle.slice_header_types.specs.declared.pred_weight_table.PredWeight.{PredWeight}
+use Rattle.h264_types.specs.declared.slice_headers.pred_weight_table.PredWeight.{PredWeight}
 use Rattle.h264_controls.specs.declared.v4l2_ctrl_h264_pred_weights.V4l2H264WeightFactors.{V4l2H264WeightFactors}
 use Rattle.h264_controls.specs.PredWeightsControl.{weight_at, weight_factors, with_weight}
 use Rattle.h264_controls.proofs.Filled.{IsFilled, filled-all, filled-more}

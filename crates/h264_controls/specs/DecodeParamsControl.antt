@@ -2,14 +2,14 @@
 -- 8.2.4.1).
 use Rattle.std.specs.Prelude.{ℕ, Bool, true, false, List, [], map, ℤ, pos, if◌then◌else◌}
 use Rattle.std.specs.Int.{w32, cast_unsigned}
-use Rattle.param_set_types.specs.declared.sps.Sps.{Sps}
-use Rattle.slice_header_types.specs.declared.slice_headers.SliceHeader.{SliceHeader}
-use Rattle.pictures.specs.declared.counts.Counts.{Counts}
-use Rattle.slice_header_types.specs.Pictures.{is_idr}
-use Rattle.pictures.specs.declared.frames.Frame.{Frame}
-use Rattle.pictures.specs.declared.frames.Term.{Term}
-use Rattle.pictures.specs.declared.frames.Term.TheVariants.{ShortTerm, LongTerm}
-use Rattle.pictures.specs.PicNums.{frame_num_wrap}
+use Rattle.h264_types.specs.declared.param_sets.sps.Sps.{Sps}
+use Rattle.h264_types.specs.declared.slice_headers.slice_headers.SliceHeader.{SliceHeader}
+use Rattle.h264_types.specs.declared.pictures.counts.Counts.{Counts}
+use Rattle.h264_types.specs.Pictures.{is_idr}
+use Rattle.h264_types.specs.declared.pictures.frames.Frame.{Frame}
+use Rattle.h264_types.specs.declared.pictures.frames.Term.{Term}
+use Rattle.h264_types.specs.declared.pictures.frames.Term.TheVariants.{ShortTerm, LongTerm}
+use Rattle.h264_types.specs.PicNums.{frame_num_wrap}
 use Rattle.h264_controls.specs.declared.v4l2_ctrl_h264_decode_params.V4l2CtrlH264DecodeParams.{V4l2CtrlH264DecodeParams}
 use Rattle.h264_controls.specs.declared.v4l2_ctrl_h264_decode_params.V4l2H264DpbEntry.{V4l2H264DpbEntry}
 use Rattle.h264_controls.specs.declared.v4l2_ctrl_h264_decode_params.V4l2H264FieldReference.TheVariants.{Frame as frame_reference}

@@ -1,11 +1,11 @@
 -- The control of a weight table (struct v4l2_ctrl_h264_pred_weights; ITU-T H.264, 7.4.3.2).
 use Rattle.std.specs.Prelude.{ℕ, Bool, true, false, pos, List, [], ◌∷◌, map, set, Option, Some, None, slice_get}
 use Rattle.std.specs.List.{range_with_len}
-use Rattle.param_set_types.specs.declared.sps.ChromaFormat.{ChromaFormat}
-use Rattle.param_set_types.specs.declared.sps.ChromaFormat.TheVariants.{Monochrome}
-use Rattle.param_set_types.specs.declared.sps.Sps.{Sps}
-use Rattle.slice_header_types.specs.declared.pred_weight_table.PredWeight.{PredWeight}
-use Rattle.slice_header_types.specs.declared.pred_weight_table.PredWeightTable.{PredWeightTable}
+use Rattle.h264_types.specs.declared.param_sets.sps.ChromaFormat.{ChromaFormat}
+use Rattle.h264_types.specs.declared.param_sets.sps.ChromaFormat.TheVariants.{Monochrome}
+use Rattle.h264_types.specs.declared.param_sets.sps.Sps.{Sps}
+use Rattle.h264_types.specs.declared.slice_headers.pred_weight_table.PredWeight.{PredWeight}
+use Rattle.h264_types.specs.declared.slice_headers.pred_weight_table.PredWeightTable.{PredWeightTable}
 use Rattle.h264_controls.specs.declared.v4l2_ctrl_h264_pred_weights.V4l2CtrlH264PredWeights.{V4l2CtrlH264PredWeights}
 use Rattle.h264_controls.specs.declared.v4l2_ctrl_h264_pred_weights.V4l2H264WeightFactors.{V4l2H264WeightFactors}
 

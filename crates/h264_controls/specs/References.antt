@@ -1,8 +1,8 @@
 -- The units that a picture may refer to, and their timestamps (struct v4l2_h264_dpb_entry, reference_ts).
 use Rattle.std.specs.Prelude.{ℕ, ◌*◌, List, [], map, if◌then◌else◌}
-use Rattle.slice_header_types.specs.declared.slice_headers.SliceHeader.{SliceHeader}
-use Rattle.slice_header_types.specs.Pictures.{is_idr}
-use Rattle.pictures.specs.declared.frames.Frame.{Frame}
+use Rattle.h264_types.specs.declared.slice_headers.slice_headers.SliceHeader.{SliceHeader}
+use Rattle.h264_types.specs.Pictures.{is_idr}
+use Rattle.h264_types.specs.declared.pictures.frames.Frame.{Frame}
 
 -- the timestamp of a unit, in nanoseconds
 abbrev pub timestamp : ℕ → ℕ

@@ -1,6 +1,6 @@
 -- The control of a slice (struct v4l2_ctrl_h264_slice_params; ITU-T H.264, 7.4.3).
 use Rattle.std.specs.Prelude.{ℕ, false, pos, List, Option}
-use Rattle.slice_header_types.specs.declared.slice_headers.SliceHeader.{SliceHeader}
+use Rattle.h264_types.specs.declared.slice_headers.slice_headers.SliceHeader.{SliceHeader}
 use Rattle.h264_controls.specs.declared.v4l2_ctrl_h264_slice_params.V4l2CtrlH264SliceParams.{V4l2CtrlH264SliceParams}
 
 -- each member is the field of its name; there are no separate colour planes, redundant pictures or switching slices

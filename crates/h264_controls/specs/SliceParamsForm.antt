@@ -1,8 +1,8 @@
 -- V4L2_CID_STATELESS_H264_SLICE_PARAMS in the digest form.
 use Rattle.std.specs.Prelude.{ℕ, ◌+◌, List, ◌++◌, Option, None, Some}
 use Rattle.std.specs.List.{flat_map}
-use Rattle.slice_header_types.specs.declared.slice_types.SliceType.{SliceType}
-use Rattle.slice_header_types.specs.declared.slice_types.SliceType.TheVariants.{P, B, I, Sp, Si}
+use Rattle.h264_types.specs.declared.slice_headers.slice_types.SliceType.{SliceType}
+use Rattle.h264_types.specs.declared.slice_headers.slice_types.SliceType.TheVariants.{P, B, I, Sp, Si}
 use Rattle.h264_controls.specs.declared.v4l2_ctrl_h264_slice_params.V4l2CtrlH264SliceParams.{V4l2CtrlH264SliceParams}
 use Rattle.h264_controls.specs.declared.v4l2_ctrl_h264_slice_params.SliceFlags.{SliceFlags}
 use Rattle.param_set_controls.specs.Words.{u8, u32, s8, flag, padded}

@@ -5,7 +5,7 @@ ghost use Rattle.std.specs.Prelude.{◌≡◌, ◌↔◌, IfOk, IsTrue};
 use crate::v4l2_ctrl_h264_decode_params::V4l2CtrlH264DecodeParams;
 use crate::v4l2_ctrl_h264_pred_weights::V4l2CtrlH264PredWeights;
 use crate::v4l2_ctrl_h264_slice_params::V4l2CtrlH264SliceParams;
-use base_types::Shared;
+use h264_types::base::Shared;
 use param_set_controls::SetControls;
 use std::alloc::AllocError;
 

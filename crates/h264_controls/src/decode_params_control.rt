@@ -1,16 +1,16 @@
 //! The control of a picture: what its header says of it, and the frames that were marked before it.
 
 ghost use Rattle.std.specs.Prelude.{◌≡◌, ◌≤◌, length, map, IfOk};
-ghost use Rattle.pictures.specs.PicNums.{frame_num_wrap};
+ghost use Rattle.h264_types.specs.PicNums.{frame_num_wrap};
 ghost use Rattle.h264_controls.specs.DecodeParamsControl.{decode_params_control, dpb, dpb_entry, frame_num_in, number_in};
 
 use crate::dpb::Dpb;
 use crate::v4l2_ctrl_h264_decode_params::{
     DecodeFlags, DpbEntryFlags, V4l2CtrlH264DecodeParams, V4l2H264DpbEntry, V4l2H264FieldReference,
 };
-use param_set_types::Sps;
-use pictures::{Counts, Frame, Marks, Term, frame_num_wrap};
-use slice_header_types::SliceHeader;
+use h264_types::param_sets::Sps;
+use h264_types::pictures::{Counts, Frame, Marks, Term, frame_num_wrap};
+use h264_types::slice_headers::SliceHeader;
 use std::alloc::{AllocError, Global};
 
 impl V4l2CtrlH264DecodeParams {

@@ -4,8 +4,8 @@ ghost use Rattle.std.specs.Prelude.{◌≡◌, ◌<◌};
 ghost use Rattle.h264_controls.specs.PredWeightsControl.{has_chroma, pred_weights_control, weight_at, weight_factors, with_weight};
 
 use crate::v4l2_ctrl_h264_pred_weights::{V4l2CtrlH264PredWeights, V4l2H264WeightFactors};
-use param_set_types::{ChromaFormat, Sps};
-use slice_header_types::{PredWeight, PredWeightTable};
+use h264_types::param_sets::{ChromaFormat, Sps};
+use h264_types::slice_headers::{PredWeight, PredWeightTable};
 
 impl V4l2CtrlH264PredWeights {
     /// The control of this table, of a slice that uses the set.

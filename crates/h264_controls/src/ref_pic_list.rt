@@ -4,7 +4,7 @@ ghost use Rattle.std.specs.Prelude.{◌≡◌, ◌↔◌, ◌≤◌, length, IfO
 ghost use Rattle.h264_controls.specs.ListEntries.{entries_in};
 
 use crate::few::Few;
-use pictures::List;
+use h264_types::pictures::List;
 use std::alloc::{AllocError, Global};
 use std::boxed::Box;
 use std::marker::Model;

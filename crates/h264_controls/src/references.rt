@@ -5,8 +5,8 @@ ghost use Rattle.h264_controls.specs.References.{references};
 ghost use Rattle.h264_controls.specs.UnitIds.{ids_in};
 
 use crate::few::Few;
-use pictures::{AuId, Frame, Marks};
-use slice_header_types::SliceHeader;
+use h264_types::pictures::{AuId, Frame, Marks};
+use h264_types::slice_headers::SliceHeader;
 use std::alloc::{AllocError, Global};
 use std::marker::Model;
 

@@ -6,9 +6,9 @@ ghost use Rattle.h264_controls.specs.References.{timestamp};
 use crate::controls::Controls;
 use crate::references::References;
 use crate::work::Work;
-use base_types::Shared;
 use bytes::Bytes;
-use pictures::AuId;
+use h264_types::base::Shared;
+use h264_types::pictures::AuId;
 use std::alloc::AllocError;
 
 /// The request of one slice, by the Request API of the Linux kernel.

@@ -5,8 +5,8 @@ ghost use Rattle.h264_controls.specs.SliceParamsControl.{slice_params_control};
 
 use crate::ref_pic_list::RefPicList;
 use crate::v4l2_ctrl_h264_slice_params::{SliceFlags, V4l2CtrlH264SliceParams};
-use pictures::List;
-use slice_header_types::SliceHeader;
+use h264_types::pictures::List;
+use h264_types::slice_headers::SliceHeader;
 use std::alloc::{AllocError, Global};
 
 impl V4l2CtrlH264SliceParams {

@@ -6,8 +6,8 @@ ghost use Rattle.std.specs.List.{flat_map};
 ghost use Rattle.h264_controls.specs.SliceParamsForm.{list_form, reference_form, slice_flags, slice_params_form, slice_type_number};
 
 use crate::ref_pic_list::RefPicList;
+use h264_types::slice_headers::SliceType;
 use param_set_controls::words::{flag, put, put_u32, put_zeros};
-use slice_header_types::SliceType;
 use std::alloc::AllocError;
 
 /// struct v4l2_ctrl_h264_slice_params: what the slice header says of the slice, and its lists.

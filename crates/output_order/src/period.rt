@@ -12,7 +12,7 @@ use crate::inside::Inside;
 use crate::order_key::{OrderKey, order_keys};
 use crate::ranking::rank;
 use crate::shown::Shown;
-use base_types::replace_range;
+use h264_types::base::replace_range;
 use std::alloc::{AllocError, Global};
 use std::marker::Model;
 

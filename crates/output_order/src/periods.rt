@@ -19,7 +19,7 @@ use crate::period::Period;
 use crate::shown::Shown;
 use crate::splice::Splice;
 use crate::touching::{Touched, none_begins, units_after};
-use base_types::replace_range;
+use h264_types::base::replace_range;
 use std::alloc::{AllocError, Global};
 use std::marker::Model;
 

@@ -1,7 +1,7 @@
 -- The control of a picture parameter set (struct v4l2_ctrl_h264_pps; ITU-T H.264, 7.4.2.2).
 use Rattle.std.specs.Prelude.{◌||◌}
-use Rattle.param_set_types.specs.declared.sps.Sps.{Sps}
-use Rattle.param_set_types.specs.declared.pps.Pps.{Pps}
+use Rattle.h264_types.specs.declared.param_sets.sps.Sps.{Sps}
+use Rattle.h264_types.specs.declared.param_sets.pps.Pps.{Pps}
 use Rattle.param_set_controls.specs.declared.v4l2_ctrl_h264_pps.PpsFlags.{PpsFlags}
 use Rattle.param_set_controls.specs.declared.v4l2_ctrl_h264_pps.V4l2CtrlH264Pps.{V4l2CtrlH264Pps}
 

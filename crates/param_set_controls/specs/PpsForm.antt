@@ -1,7 +1,7 @@
 -- V4L2_CID_STATELESS_H264_PPS in the digest form.
 use Rattle.std.specs.Prelude.{ℕ, ◌+◌, List, ◌++◌}
-use Rattle.param_set_types.specs.declared.pps.WeightedBipred.{WeightedBipred}
-use Rattle.param_set_types.specs.declared.pps.WeightedBipred.TheVariants.{Default, Explicit, Implicit}
+use Rattle.h264_types.specs.declared.param_sets.pps.WeightedBipred.{WeightedBipred}
+use Rattle.h264_types.specs.declared.param_sets.pps.WeightedBipred.TheVariants.{Default, Explicit, Implicit}
 use Rattle.param_set_controls.specs.declared.v4l2_ctrl_h264_pps.V4l2CtrlH264Pps.{V4l2CtrlH264Pps}
 use Rattle.param_set_controls.specs.declared.v4l2_ctrl_h264_pps.PpsFlags.{PpsFlags}
 use Rattle.param_set_controls.specs.Words.{u8, u16, s8, flag}

@@ -1,8 +1,8 @@
 -- The control of the scaling lists of a picture (struct v4l2_ctrl_h264_scaling_matrix; ITU-T H.264, 7.4.2.2).
 use Rattle.std.specs.Prelude.{◌++◌, replicate}
-use Rattle.param_set_types.specs.declared.sps.Sps.{Sps}
-use Rattle.param_set_types.specs.declared.pps.Pps.{Pps}
-use Rattle.param_set_types.specs.ScalingMatrix.{scaling_matrix}
+use Rattle.h264_types.specs.declared.param_sets.sps.Sps.{Sps}
+use Rattle.h264_types.specs.declared.param_sets.pps.Pps.{Pps}
+use Rattle.h264_types.specs.ScalingMatrix.{scaling_matrix}
 use Rattle.param_set_controls.specs.declared.v4l2_ctrl_h264_scaling_matrix.V4l2CtrlH264ScalingMatrix.{V4l2CtrlH264ScalingMatrix}
 
 -- the lists of the picture; those of 8x8 blocks of chroma, which only 4:4:4 has, are flat

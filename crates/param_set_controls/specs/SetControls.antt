@@ -1,6 +1,6 @@
 -- The controls that the parameter sets alone decide.
-use Rattle.param_set_types.specs.declared.sps.Sps.{Sps}
-use Rattle.param_set_types.specs.declared.pps.Pps.{Pps}
+use Rattle.h264_types.specs.declared.param_sets.sps.Sps.{Sps}
+use Rattle.h264_types.specs.declared.param_sets.pps.Pps.{Pps}
 use Rattle.param_set_controls.specs.declared.set_controls.SetControls.{SetControls}
 use Rattle.param_set_controls.specs.SpsControl.{sps_control}
 use Rattle.param_set_controls.specs.PpsControl.{pps_control}

@@ -1,6 +1,6 @@
 -- The control of a sequence parameter set (struct v4l2_ctrl_h264_sps; ITU-T H.264, 7.4.2.1.1).
 use Rattle.std.specs.Prelude.{◌-◌, ◌++◌, true, false, ℤ, pos, List, length, replicate}
-use Rattle.param_set_types.specs.declared.sps.Sps.{Sps}
+use Rattle.h264_types.specs.declared.param_sets.sps.Sps.{Sps}
 use Rattle.param_set_controls.specs.declared.v4l2_ctrl_h264_sps.SpsFlags.{SpsFlags}
 use Rattle.param_set_controls.specs.declared.v4l2_ctrl_h264_sps.V4l2CtrlH264Sps.{V4l2CtrlH264Sps}
 

@@ -1,10 +1,10 @@
 -- V4L2_CID_STATELESS_H264_SPS in the digest form.
 use Rattle.std.specs.Prelude.{ℕ, ◌+◌, Bool, false, List, ◌++◌, slice_index_or}
 use Rattle.std.specs.List.{flat_map}
-use Rattle.param_set_types.specs.declared.sps.ChromaFormat.{ChromaFormat}
-use Rattle.param_set_types.specs.declared.sps.ChromaFormat.TheVariants.{Monochrome, Yuv420, Yuv422}
-use Rattle.param_set_types.specs.declared.sps.PicOrderCntType.{PicOrderCntType}
-use Rattle.param_set_types.specs.declared.sps.PicOrderCntType.TheVariants.{Zero, One, Two}
+use Rattle.h264_types.specs.declared.param_sets.sps.ChromaFormat.{ChromaFormat}
+use Rattle.h264_types.specs.declared.param_sets.sps.ChromaFormat.TheVariants.{Monochrome, Yuv420, Yuv422}
+use Rattle.h264_types.specs.declared.param_sets.sps.PicOrderCntType.{PicOrderCntType}
+use Rattle.h264_types.specs.declared.param_sets.sps.PicOrderCntType.TheVariants.{Zero, One, Two}
 use Rattle.param_set_controls.specs.declared.v4l2_ctrl_h264_sps.V4l2CtrlH264Sps.{V4l2CtrlH264Sps}
 use Rattle.param_set_controls.specs.declared.v4l2_ctrl_h264_sps.SpsFlags.{SpsFlags}
 use Rattle.param_set_controls.specs.Words.{u8, u16, u32, s32, flag}

@@ -4,7 +4,7 @@ ghost use Rattle.std.specs.Prelude.{◌≡◌};
 ghost use Rattle.param_set_controls.specs.PpsControl.{pps_control, pps_flags_of};
 
 use crate::v4l2_ctrl_h264_pps::{PpsFlags, V4l2CtrlH264Pps};
-use param_set_types::{Pps, Sps};
+use h264_types::param_sets::{Pps, Sps};
 
 impl V4l2CtrlH264Pps {
     /// The control of this set, which stands on that sequence parameter set.

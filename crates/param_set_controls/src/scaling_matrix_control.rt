@@ -4,7 +4,7 @@ ghost use Rattle.std.specs.Prelude.{◌≡◌};
 ghost use Rattle.param_set_controls.specs.ScalingMatrixControl.{scaling_matrix_control};
 
 use crate::v4l2_ctrl_h264_scaling_matrix::V4l2CtrlH264ScalingMatrix;
-use param_set_types::{Pps, Sps, resolve_matrix};
+use h264_types::param_sets::{Pps, Sps, resolve_matrix};
 
 /// Flat_8x8_16.
 const FLAT_8X8_16: [u8; 64] = [16; 64];

@@ -7,8 +7,8 @@ ghost use Rattle.param_set_controls.specs.SetControls.{set_controls};
 use crate::v4l2_ctrl_h264_pps::V4l2CtrlH264Pps;
 use crate::v4l2_ctrl_h264_scaling_matrix::V4l2CtrlH264ScalingMatrix;
 use crate::v4l2_ctrl_h264_sps::V4l2CtrlH264Sps;
-use base_types::Shared;
-use param_set_types::{Pps, Sps};
+use h264_types::base::Shared;
+use h264_types::param_sets::{Pps, Sps};
 use std::alloc::AllocError;
 
 /// The controls of a picture parameter set, of the sequence parameter set that it stands on, and of

@@ -4,7 +4,7 @@ ghost use Rattle.std.specs.Prelude.{◌≡◌, ◌≤◌, ◌++◌, drop, length
 ghost use Rattle.param_set_controls.specs.SpsControl.{cycle, sps_control, sps_flags_of};
 
 use crate::v4l2_ctrl_h264_sps::{SpsFlags, V4l2CtrlH264Sps};
-use param_set_types::{Offsets, Sps};
+use h264_types::param_sets::{Offsets, Sps};
 
 impl V4l2CtrlH264Sps {
     /// The control of this set.

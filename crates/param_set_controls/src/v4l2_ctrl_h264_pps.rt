@@ -5,7 +5,7 @@ ghost use Rattle.std.specs.Vec.{vec_capacity};
 ghost use Rattle.param_set_controls.specs.PpsForm.{pps_flags, pps_form, weighted_bipred_number};
 
 use crate::words::{flag, put, put_u16};
-use param_set_types::WeightedBipred;
+use h264_types::param_sets::WeightedBipred;
 
 /// struct v4l2_ctrl_h264_pps: the picture parameter set of the slice.
 #[derive(Clone, Copy, Debug, PartialEq, Eq)]

@@ -5,7 +5,7 @@ ghost use Rattle.std.specs.Vec.{vec_capacity};
 ghost use Rattle.param_set_controls.specs.SpsForm.{chroma_format_number, constraint_set_number, pic_order_cnt_type_number, sps_flags, sps_form};
 
 use crate::words::{flag, put, put_s32, put_s32s, put_u16, put_u32};
-use param_set_types::{ChromaFormat, PicOrderCntType};
+use h264_types::param_sets::{ChromaFormat, PicOrderCntType};
 
 /// struct v4l2_ctrl_h264_sps: the active sequence parameter set.
 #[derive(Debug, Drop)]

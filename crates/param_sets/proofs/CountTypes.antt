@@ -5,10 +5,10 @@ use Rattle.expgolomb.specs.Answer.{Reads}
 use Rattle.param_sets.specs.Answer.{Refuses, Stores}
 use Rattle.expgolomb.specs.TableReading.{rows_at}
 use Rattle.param_sets.specs.SpsSyntax.{take, type_zero_rows, type_one_rows, offset_row, offset_rows, typed_rows, with_offsets}
-use Rattle.param_set_types.specs.CountTypes.{is_type_zero, is_type_one}
+use Rattle.h264_types.specs.CountTypes.{is_type_zero, is_type_one}
 use Rattle.param_sets.specs.declared.fault.SetFault.{SetFault}
-use Rattle.param_set_types.specs.declared.sps.Sps.{Sps}
-use Rattle.param_set_types.specs.declared.sps.PicOrderCntType.TheVariants.{Zero, One, Two}
+use Rattle.h264_types.specs.declared.param_sets.sps.Sps.{Sps}
+use Rattle.h264_types.specs.declared.param_sets.sps.PicOrderCntType.TheVariants.{Zero, One, Two}
 use Rattle.expgolomb.proofs.Tables.{rows_absent}
 use Rattle.expgolomb.proofs.Loops.{after_ok, after_err, repeat_absent}
 use Rattle.param_sets.proofs.Refusals.{refused, refused_by}

@@ -4,11 +4,11 @@ use Rattle.expgolomb.specs.Bits.{Place}
 use Rattle.param_sets.specs.declared.fault.SetFault.{SetFault}
 use Rattle.param_sets.specs.Answer.{Refuses}
 use Rattle.expgolomb.specs.TableReading.{rows_at}
-use Rattle.param_set_types.specs.ScaleSteps.{Deltas}
+use Rattle.h264_types.specs.ScaleSteps.{Deltas}
 use Rattle.param_sets.specs.Scaling.{take_list, list_rows}
 use Rattle.param_sets.specs.SpsSyntax.{ScalingList, take, has_matrix, high_rows, high_fields, scaling_rows}
-use Rattle.param_set_types.specs.Profiles.{is_high}
-use Rattle.param_set_types.specs.declared.sps.Sps.{Sps}
+use Rattle.h264_types.specs.Profiles.{is_high}
+use Rattle.h264_types.specs.declared.param_sets.sps.Sps.{Sps}
 use Rattle.expgolomb.proofs.Tables.{rows_absent}
 use Rattle.expgolomb.proofs.Loops.{after_ok}
 use Rattle.expgolomb.proofs.Parts.{mapped, part_absent, part_read}

@@ -6,7 +6,7 @@ use Rattle.expgolomb.specs.Bits.{Place}
 use Rattle.param_sets.specs.declared.fault.SetFault.{SetFault}
 use Rattle.param_sets.specs.Answer.{Refuses}
 use Rattle.expgolomb.specs.TableReading.{field_at, rows_at}
-use Rattle.param_set_types.specs.ScaleSteps.{Deltas, list_size, next_scale, scale_after}
+use Rattle.h264_types.specs.ScaleSteps.{Deltas, list_size, next_scale, scale_after}
 use Rattle.param_sets.specs.Scaling.{take_list, present_row, delta_row, list_rows, is_reading, goes_on, add_delta}
 use Rattle.expgolomb.proofs.Loops.{rows_step, rows_stop, rows_none, repeat_step, repeat_stop, repeat_absent, after_ok, after_err}
 use Rattle.param_sets.proofs.Refusals.{refused_by}

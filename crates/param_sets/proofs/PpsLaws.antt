@@ -5,7 +5,7 @@ use Rattle.expgolomb.specs.Reading.{ue_at}
 use Rattle.expgolomb.proofs.Loops.{rows_stop}
 use Rattle.param_sets.specs.declared.fault.SetFault.{SetFault}
 use Rattle.param_sets.specs.declared.fault.SetFault.TheVariants.{Cut}
-use Rattle.param_set_types.specs.declared.pps.Pps.{Pps}
+use Rattle.h264_types.specs.declared.param_sets.pps.Pps.{Pps}
 use Rattle.param_sets.specs.Answer.{Stores}
 use Rattle.expgolomb.specs.TableReading.{rows_at, value_at}
 use Rattle.expgolomb.specs.Payloads.{after_first}

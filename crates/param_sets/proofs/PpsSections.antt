@@ -3,12 +3,12 @@ use Rattle.std.proofs.Common.{◌≡◌, ◌++◌, [], Bool, true, false, cond, 
 use Rattle.expgolomb.specs.Bits.{Place}
 use Rattle.param_sets.specs.declared.fault.SetFault.{SetFault}
 use Rattle.param_sets.specs.Answer.{Refuses}
-use Rattle.base_types.specs.Chains.{◌>>=◌}
+use Rattle.h264_types.specs.Chains.{◌>>=◌}
 use Rattle.expgolomb.specs.TableReading.{rows_at}
-use Rattle.param_set_types.specs.ScaleSteps.{Deltas}
+use Rattle.h264_types.specs.ScaleSteps.{Deltas}
 use Rattle.param_sets.specs.Scaling.{take_list, list_rows}
 use Rattle.param_sets.specs.PpsSyntax.{ScalingList, PpsSoFar, so_far, take, has_matrix, has_large_lists, transform_rows, small_list_rows, large_list_rows, pic_list_rows, list_count, second_offset_rows, more_rows}
-use Rattle.param_set_types.specs.declared.pps.Pps.{Pps}
+use Rattle.h264_types.specs.declared.param_sets.pps.Pps.{Pps}
 use Rattle.expgolomb.proofs.Tables.{rows_append}
 use Rattle.expgolomb.proofs.Loops.{after_ok, rows_pass, rows_none}
 use Rattle.expgolomb.proofs.Parts.{mapped, part_absent, part_read}

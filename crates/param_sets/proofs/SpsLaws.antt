@@ -4,7 +4,7 @@ use Rattle.expgolomb.specs.Bits.{Place}
 use Rattle.expgolomb.proofs.ExpGolomb.{fixed_short}
 use Rattle.param_sets.specs.declared.fault.SetFault.{SetFault}
 use Rattle.param_sets.specs.declared.fault.SetFault.TheVariants.{Cut}
-use Rattle.param_set_types.specs.declared.sps.Sps.{Sps}
+use Rattle.h264_types.specs.declared.param_sets.sps.Sps.{Sps}
 use Rattle.param_sets.specs.Answer.{Stores}
 use Rattle.expgolomb.specs.TableReading.{unsigned, checked, value_at, rows_at}
 use Rattle.expgolomb.specs.Payloads.{after_first}

@@ -5,7 +5,7 @@ use Rattle.param_sets.specs.Answer.{Refuses}
 use Rattle.expgolomb.specs.TableReading.{rows_at}
 use Rattle.param_sets.specs.SpsSyntax.{take, no_sps, SpsRow, beginning_rows, high_rows, count_rows, typed_rows, frame_rows, size_rows, sps_rows}
 use Rattle.param_sets.specs.declared.fault.SetFault.{SetFault}
-use Rattle.param_set_types.specs.declared.sps.Sps.{Sps}
+use Rattle.h264_types.specs.declared.param_sets.sps.Sps.{Sps}
 use Rattle.expgolomb.proofs.Loops.{after_ok, after_err}
 use Rattle.param_sets.proofs.Refusals.{refused, refused_by}
 

@@ -5,3 +5,7 @@ pub mod Scaling
 pub mod SpsSyntax
 pub mod PpsSyntax
 pub mod Sets
+pub mod Cropping
+pub mod SetCodes
+pub mod Sizes
+pub mod Skipping

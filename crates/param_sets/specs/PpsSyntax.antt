@@ -3,9 +3,9 @@ use Rattle.std.specs.Prelude.{ℕ, ◌==◌, Bool, false, List, [], ◌∷◌, �
 use Rattle.param_sets.specs.declared.fault.SetFault.{SetFault}
 use Rattle.param_sets.specs.declared.fault.SetFault.TheVariants.{Cut, Range, SliceGroups}
 use Rattle.param_sets.specs.declared.fault.SetField.TheVariants as ranges
-use Rattle.param_set_types.specs.declared.pps.Pps.{Pps}
-use Rattle.param_set_types.specs.declared.pps.WeightedBipred.{WeightedBipred}
-use Rattle.param_set_types.specs.declared.pps.WeightedBipred.TheVariants.{Default, Explicit, Implicit}
+use Rattle.h264_types.specs.declared.param_sets.pps.Pps.{Pps}
+use Rattle.h264_types.specs.declared.param_sets.pps.WeightedBipred.{WeightedBipred}
+use Rattle.h264_types.specs.declared.param_sets.pps.WeightedBipred.TheVariants.{Default, Explicit, Implicit}
 use Rattle.expgolomb.specs.Grammar.{MoreData, Row}
 use Rattle.param_sets.specs.Rows.{u, u_of, ue, se}
 use Rattle.expgolomb.specs.Rows.{within, always, flag_of}

@@ -8,7 +8,7 @@ use Rattle.param_sets.specs.declared.fault.SetField.TheVariants as ranges
 use Rattle.expgolomb.specs.Grammar.{Row}
 use Rattle.param_sets.specs.Rows.{u, se}
 use Rattle.expgolomb.specs.Rows.{always, flag_of}
-use Rattle.param_set_types.specs.ScaleSteps.{Deltas, next_scale, list_size}
+use Rattle.h264_types.specs.ScaleSteps.{Deltas, next_scale, list_size}
 
 -- the fields of a list, in the standard's names
 pub data ListField : Type 0 where

@@ -3,8 +3,8 @@ use Rattle.std.specs.Prelude.{◌≡◌, ℕ, List, Result, Ok, Err}
 use Rattle.expgolomb.specs.Bits.{Place, start, skip}
 use Rattle.param_sets.specs.declared.fault.SetFault.{SetFault}
 use Rattle.param_sets.specs.declared.fault.SetFault.TheVariants.{Memory}
-use Rattle.param_set_types.specs.declared.sps.Sps.{Sps}
-use Rattle.param_set_types.specs.declared.pps.Pps.{Pps}
+use Rattle.h264_types.specs.declared.param_sets.sps.Sps.{Sps}
+use Rattle.h264_types.specs.declared.param_sets.pps.Pps.{Pps}
 use Rattle.expgolomb.specs.Grammar.{Header, values, HasRows, HasFault}
 use Rattle.expgolomb.specs.TableReading.{rows_at}
 use Rattle.expgolomb.specs.Payloads.{after_first}

@@ -4,16 +4,16 @@ use Rattle.std.specs.List.{list_any}
 use Rattle.param_sets.specs.declared.fault.SetFault.{SetFault}
 use Rattle.param_sets.specs.declared.fault.SetFault.TheVariants.{Range, Profile, Chroma444, Interlaced, RefFrames}
 use Rattle.param_sets.specs.declared.fault.SetField.TheVariants as ranges
-use Rattle.param_set_types.specs.declared.sps.Sps.{Sps}
-use Rattle.param_set_types.specs.declared.sps.ChromaFormat.{ChromaFormat}
-use Rattle.param_set_types.specs.declared.sps.ChromaFormat.TheVariants.{Monochrome, Yuv420, Yuv422}
-use Rattle.param_set_types.specs.declared.sps.PicOrderCntType.{PicOrderCntType}
-use Rattle.param_set_types.specs.declared.sps.PicOrderCntType.TheVariants.{Zero, One, Two}
+use Rattle.h264_types.specs.declared.param_sets.sps.Sps.{Sps}
+use Rattle.h264_types.specs.declared.param_sets.sps.ChromaFormat.{ChromaFormat}
+use Rattle.h264_types.specs.declared.param_sets.sps.ChromaFormat.TheVariants.{Monochrome, Yuv420, Yuv422}
+use Rattle.h264_types.specs.declared.param_sets.sps.PicOrderCntType.{PicOrderCntType}
+use Rattle.h264_types.specs.declared.param_sets.sps.PicOrderCntType.TheVariants.{Zero, One, Two}
 use Rattle.expgolomb.specs.Grammar.{Row}
 use Rattle.param_sets.specs.Rows.{u, u_of, ue, ue_of, se_any}
 use Rattle.expgolomb.specs.Rows.{within, always, flag_of}
-use Rattle.param_set_types.specs.Profiles.{is_high}
-use Rattle.param_set_types.specs.CountTypes.{is_type_zero, is_type_one}
+use Rattle.h264_types.specs.Profiles.{is_high}
+use Rattle.h264_types.specs.CountTypes.{is_type_zero, is_type_one}
 use Rattle.param_sets.specs.Scaling.{ListField, take_list, list_rows}
 
 -- the fields, in the standard's names

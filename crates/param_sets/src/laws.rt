@@ -3,8 +3,8 @@
 ghost use Rattle.std.specs.Prelude.{◌≡◌, ◌↔◌, ℕ, List, Ok, Err};
 ghost use Rattle.param_sets.specs.Sets.{IsPps, IsSps, PpsHasFault, SpsHasFault, pps_at, sps_at};
 ghost use Rattle.param_sets.specs.declared.fault.SetFault.{SetFault};
-ghost use Rattle.param_set_types.specs.declared.pps.Pps.{Pps};
-ghost use Rattle.param_set_types.specs.declared.sps.Sps.{Sps};
+ghost use Rattle.h264_types.specs.declared.param_sets.pps.Pps.{Pps};
+ghost use Rattle.h264_types.specs.declared.param_sets.sps.Sps.{Sps};
 
 /// A payload has a sequence parameter set exactly where reading its syntax in order gives that set,
 /// and shows a fault first exactly where reading ends with it.

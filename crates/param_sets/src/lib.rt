@@ -5,6 +5,7 @@
 //! `expgolomb`, and `resolve_matrix` is that of `param_set_types`.
 #![tactic(auto)]
 
+pub mod cropping;
 mod fault;
 pub mod laws;
 mod pic_parameter_set;
@@ -13,7 +14,7 @@ mod seq_parameter_set;
 mod set_fields;
 
 pub use fault::{SetFault, SetField};
-pub use param_set_types::{
+pub use h264_types::param_sets::{
     ChromaFormat, Offsets, PicOrderCntType, Pps, ScalingList, ScalingLists, ScalingMatrix, Sps,
     WeightedBipred, resolve_matrix,
 };

@@ -7,14 +7,14 @@ ghost use Rattle.param_sets.specs.Answer.{Stores};
 ghost use Rattle.param_sets.specs.Sets.{IsPps, PpsHasFault, pps_at, Answers, IsShown};
 ghost use Rattle.param_sets.specs.declared.fault.SetFault.{SetFault};
 ghost use Rattle.param_sets.specs.PpsSyntax.{PpsSoFar, take, no_pps, so_far, id_rows, coding_rows, prediction_rows, quantisation_rows, slice_rows, transform_rows, pic_list_rows, list_count, second_offset_rows, more_rows, pps_rows};
-ghost use Rattle.param_set_types.specs.declared.pps.Pps.{Pps};
+ghost use Rattle.h264_types.specs.declared.param_sets.pps.Pps.{Pps};
 
 use crate::fault::{SetFault, SetField};
 use crate::scaling_list::scaling_lists;
 use crate::set_fields::{after_header, bounded, more_data, small};
-use base_types::AtMost;
 use expgolomb::{Bits, fixed_at_most, flag, ue};
-use param_set_types::{Pps, ScalingLists, WeightedBipred};
+use h264_types::base::AtMost;
+use h264_types::param_sets::{Pps, ScalingLists, WeightedBipred};
 use std::alloc::Global;
 
 // The beginning of a set: what isn't read yet has the value that is inferred where it stays absent.

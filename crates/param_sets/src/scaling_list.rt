@@ -3,13 +3,13 @@
 ghost use Rattle.std.specs.Prelude.{◌≡◌, ◌≤◌, List, [], ◌∷◌, ◌++◌, replicate, length, Some};
 ghost use Rattle.expgolomb.specs.TableReading.{rows_at};
 ghost use Rattle.param_sets.specs.Answer.{Stores};
-ghost use Rattle.param_set_types.specs.ScaleSteps.{Deltas, list_size};
+ghost use Rattle.h264_types.specs.ScaleSteps.{Deltas, list_size};
 ghost use Rattle.param_sets.specs.Scaling.{take_list, present_row, delta_row, list_rows};
 
 use crate::fault::{SetFault, SetField};
 use crate::set_fields::small;
 use expgolomb::{Bits, flag};
-use param_set_types::{ScalingList, ScalingLists, scale_after};
+use h264_types::param_sets::{ScalingList, ScalingLists, scale_after};
 use std::alloc::Global;
 
 /// Reads so many scaling lists.

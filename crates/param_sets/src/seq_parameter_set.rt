@@ -8,15 +8,15 @@ ghost use Rattle.param_sets.specs.Answer.{Stores};
 ghost use Rattle.param_sets.specs.Sets.{IsSps, SpsHasFault, sps_at, Answers, IsShown};
 ghost use Rattle.param_sets.specs.declared.fault.SetFault.{SetFault};
 ghost use Rattle.param_sets.specs.SpsSyntax.{take, no_sps, profile_range, chroma_range, high_fields, high_rows, scaling_rows, frames_only, beginning_rows, constraint_rows, level_rows, count_rows, type_zero_rows, type_one_rows, with_offsets, IsCycleOf, offset_rows, typed_rows, frame_rows, size_rows, sps_rows};
-ghost use Rattle.param_set_types.specs.Profiles.{is_high};
-ghost use Rattle.param_set_types.specs.declared.sps.Sps.{Sps};
+ghost use Rattle.h264_types.specs.Profiles.{is_high};
+ghost use Rattle.h264_types.specs.declared.param_sets.sps.Sps.{Sps};
 
 use crate::fault::{SetFault, SetField};
 use crate::scaling_list::scaling_lists;
 use crate::set_fields::{after_header, bounded};
-use base_types::AtMost;
 use expgolomb::{Bits, fixed, flag, se_any, ue, ue_any};
-use param_set_types::{ChromaFormat, Offsets, PicOrderCntType, ScalingLists, Sps};
+use h264_types::base::AtMost;
+use h264_types::param_sets::{ChromaFormat, Offsets, PicOrderCntType, ScalingLists, Sps};
 use std::alloc::Global;
 
 // profile_idc.

@@ -8,8 +8,8 @@ ghost use Rattle.expgolomb.specs.Payloads.{after_first};
 ghost use Rattle.expgolomb.specs.Answer.{Reads, flag_value};
 
 use crate::fault::SetFault;
-use base_types::AtMost;
 use expgolomb::{Bits, se, ue};
+use h264_types::base::AtMost;
 
 /// A reader of a payload after its first byte, the unit's header.
 pub fn after_header(payload: &[u8]) -> Result<Bits<'_>, SetFault>

@@ -6,7 +6,7 @@ use Rattle.std.specs.Ordering.{nat_cmp, is_eq}
 use Rattle.std.specs.BTreeMap.{is_at}
 use Rattle.h264_controls.specs.declared.work.Work.{Work}
 use Rattle.unit_outcomes.specs.declared.outcome.Outcome.{Outcome}
-use Rattle.dep_keys.specs.KeyMaps.{KeyMap}
+use Rattle.decode_jobs.specs.KeyMaps.{KeyMap}
 use Rattle.decode_jobs.specs.Keys.{Key}
 use Rattle.picture_keys.specs.Known.{Known, key_of_outcome, known_with, known_after, keys_after}
 use Rattle.picture_keys.specs.Numbered.{Numbers, number_at, numbers_over, numbers_with, StandsFor, AreNumbered, AllStandFor}

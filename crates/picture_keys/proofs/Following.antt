@@ -4,7 +4,7 @@ use Rattle.h264_controls.specs.declared.work.Work.{Work}
 use Rattle.unit_outcomes.specs.declared.outcome.Outcome.{Outcome}
 use Rattle.unit_outcomes.specs.declared.outcome.Outcome.TheVariants as outcomes
 use Rattle.unit_outcomes.specs.declared.outcome.Plan.{Plan}
-use Rattle.dep_keys.specs.KeyMaps.{KeyMap, tree_at, tree_of, Extends}
+use Rattle.decode_jobs.specs.KeyMaps.{KeyMap, tree_at, tree_of, Extends}
 use Rattle.decode_jobs.specs.Keys.{Key, works_of}
 use Rattle.picture_keys.specs.Known.{Known, key_of, key_of_outcome, known_with, known_after, keys_after}
 use Rattle.picture_keys.specs.Numbered.{Numbers, number_at, numbers_named, StandsFor, AreNumbered, AllStandFor}

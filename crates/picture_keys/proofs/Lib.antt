@@ -3,3 +3,7 @@ pub mod Numbering
 pub mod Following
 pub mod Naming
 pub mod Columns
+pub mod Lists
+pub mod Rows
+pub mod Least
+pub mod Alike

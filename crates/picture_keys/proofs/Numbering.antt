@@ -5,7 +5,7 @@ use Rattle.std.specs.Prelude.{option_and_then}
 use Rattle.std.specs.List.{flat_map}
 use Rattle.h264_controls.specs.declared.request.Request.{Request}
 use Rattle.h264_controls.specs.declared.work.Work.{Work}
-use Rattle.dep_keys.specs.KeyMaps.{KeyMap, tree_at, tree_from, tree_of, named, IsLive, AreLive, Extends}
+use Rattle.decode_jobs.specs.KeyMaps.{KeyMap, tree_at, tree_from, tree_of, named, IsLive, AreLive, Extends}
 use Rattle.decode_jobs.specs.Keys.{Key, works_of, named_by, named_by_all, tree_with}
 use Rattle.picture_keys.specs.Known.{Known, key_at, key_of, known_with}
 use Rattle.picture_keys.specs.Numbered.{Numbers, number_at, number_named, numbers_in, numbers_named, StandsFor, AreNumbered}

@@ -4,9 +4,9 @@ use Rattle.h264_controls.specs.declared.request.Request.{Request}
 use Rattle.h264_controls.specs.declared.work.Work.{Work}
 use Rattle.unit_outcomes.specs.declared.outcome.Outcome.{Outcome}
 use Rattle.unit_outcomes.specs.declared.outcome.Outcome.TheVariants.{Plan, Fault, Empty}
-use Rattle.dep_keys.specs.Interning.{IsInterned}
-use Rattle.dep_keys.specs.KeyMaps.{KeyMap, tree_of}
-use Rattle.dep_keys.specs.Nodes.{NodeOf}
+use Rattle.decode_jobs.specs.Interning.{IsInterned}
+use Rattle.decode_jobs.specs.KeyMaps.{KeyMap, tree_of}
+use Rattle.decode_jobs.specs.Nodes.{NodeOf}
 use Rattle.decode_jobs.specs.Keys.{Key, works_of}
 use Rattle.picture_keys.specs.Numbered.{Numbers, numbers_named}
 

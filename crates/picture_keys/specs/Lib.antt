@@ -8,3 +8,5 @@ pub mod Following
 pub mod Adding
 pub mod Referred
 pub mod Messages
+pub mod Units
+pub mod Stretches

@@ -3,7 +3,7 @@
 ghost use Rattle.std.specs.Prelude.{◌≡◌, List};
 ghost use Rattle.h264_controls.specs.declared.request.Request.{Request};
 ghost use Rattle.h264_controls.specs.declared.work.Work.{Work};
-ghost use Rattle.dep_keys.specs.KeyMaps.{AreLive, KeyMap, tree_of};
+ghost use Rattle.decode_jobs.specs.KeyMaps.{AreLive, KeyMap, tree_of};
 ghost use Rattle.decode_jobs.specs.Inputs.{InputValue};
 ghost use Rattle.decode_jobs.specs.Keys.{works_of};
 ghost use Rattle.picture_keys.specs.Known.{Known, key_of};

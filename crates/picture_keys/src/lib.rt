@@ -10,6 +10,7 @@
 //! that keys are looked for without the bytes. Clauses see the unit and the outcome.
 #![tactic(auto)]
 
+pub mod changed_units;
 mod digest;
 mod hashed_bytes;
 mod hashed_outcome;

@@ -4,7 +4,7 @@ ghost use Rattle.std.specs.Prelude.{◌≡◌, ◌++◌, IfOk, OnOk, map};
 ghost use Rattle.decode_jobs.specs.Keys.{named_by, named_by_all, unit_named};
 
 use h264_controls::{References, Request};
-use pictures::AuId;
+use h264_types::pictures::AuId;
 use std::alloc::{AllocError, Global};
 
 /// The units that requests name, entry by entry: at each entry of their lists, slice by slice and

@@ -10,9 +10,9 @@ use crate::SlicesDigest;
 use crate::named::units_named;
 use crate::numbers::KeyNumbers;
 use crate::works::Works;
-use dep_keys::{KeyId, Node};
+use decode_jobs::dep_keys::{KeyId, Node};
 use h264_controls::Request;
-use pictures::AuId;
+use h264_types::pictures::AuId;
 use std::alloc::{AllocError, Global};
 use unit_outcomes::Requests;
 

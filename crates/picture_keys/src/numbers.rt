@@ -6,8 +6,8 @@ ghost use Rattle.std.specs.BTreeMap.{is_at};
 ghost use Rattle.std.specs.Map.{lookup};
 ghost use Rattle.picture_keys.specs.Numbered.{AreSeen, number_at, numbers_over, numbers_with};
 
-use dep_keys::KeyId;
-use pictures::AuId;
+use decode_jobs::dep_keys::KeyId;
+use h264_types::pictures::AuId;
 use std::alloc::{AllocError, Global};
 use std::collections::BTreeMap;
 use std::marker::Model;

@@ -11,9 +11,9 @@ ghost use Rattle.picture_keys.specs.SliceBytes.{slices_digest};
 ghost use Rattle.picture_keys.specs.Messages.{order_bytes, works_bytes};
 
 use crate::SlicesDigest;
-use base_types::Shared;
-use dep_keys::Work as KeyWork;
+use decode_jobs::dep_keys::Work as KeyWork;
 use h264_controls::Work;
+use h264_types::base::Shared;
 use sha2::{Digest, Sha256};
 use std::alloc::{AllocError, Global};
 use std::marker::Model;

@@ -4,9 +4,9 @@ use Rattle.std.specs.Prelude.{All, Contains}
 use Rattle.std.specs.Option.{option_and_then, option_to_list}
 use Rattle.std.proofs.lemmas.List.Elements.{All-weaker, Contains-append_left, Contains-append_right}
 use Rattle.decode_jobs.specs.declared.input.Reference.{Reference}
-use Rattle.key_slots.specs.declared.places.Slot.{Slot}
-use Rattle.key_slots.specs.Places.{picture_held, pictures_held, place_at, place_of}
-use Rattle.key_slots.proofs.Members.{here}
+use Rattle.held_pictures.specs.declared.key_slots.places.Slot.{Slot}
+use Rattle.held_pictures.specs.Places.{picture_held, pictures_held, place_at, place_of}
+use Rattle.held_pictures.proofs.Members.{here}
 use Rattle.picture_store.specs.Naming.{IsShown, picture_in}
 use Rattle.picture_store.specs.Places.{PlacesValue}
 

@@ -8,7 +8,7 @@ use Rattle.std.proofs.lemmas.List.Elements.{All-map, All-contains, All-weaker}
 use Rattle.std.proofs.lemmas.List.Quantifiers.{position-Some}
 use Rattle.std.proofs.lemmas.List.Sums.{fails_before_first}
 use Rattle.std.proofs.lemmas.Option.{same_Some}
-use Rattle.key_slots.proofs.Members.{All-from_contains, among_map}
+use Rattle.held_pictures.proofs.Members.{All-from_contains, among_map}
 use Rattle.decode_jobs.specs.Jobs.{JobValue}
 use Rattle.picture_store.specs.declared.job_out.JobOut.{JobOut}
 use Rattle.picture_store.specs.Jobs.{IsSameJob, input_of, IsOut, LandsThere, AnswersLand, AnswersLandOf}

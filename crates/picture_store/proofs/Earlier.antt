@@ -5,12 +5,12 @@ use Rattle.std.specs.List.{zip}
 use Rattle.std.proofs.lemmas.Option.{none-some, same_Some}
 use Rattle.h264_controls.specs.declared.work.Work.{Work}
 use Rattle.unit_outcomes.specs.declared.outcome.Outcome.{Outcome}
-use Rattle.dep_keys.specs.KeyMaps.{IsKeyMap, entered, tree_at}
+use Rattle.decode_jobs.specs.KeyMaps.{IsKeyMap, entered, tree_at}
 use Rattle.decode_jobs.specs.Keys.{Key, named_by_all, tree_with, works_of}
 use Rattle.picture_keys.specs.Known.{Known, key_at, key_of, known_after, keys_of}
 use Rattle.picture_keys.specs.Numbered.{AllStandFor}
-use Rattle.key_slots.proofs.Lookups.{known_of}
-use Rattle.key_slots.proofs.Standing.{number_of_key, number_there, stands_at, valid_of_found}
+use Rattle.held_pictures.proofs.Lookups.{known_of}
+use Rattle.held_pictures.proofs.Standing.{number_of_key, number_there, stands_at, valid_of_found}
 use Rattle.picture_store.specs.Kept.{Trees}
 use Rattle.picture_store.specs.Schedules.{IsEntryOf, RefersTo}
 

@@ -2,10 +2,10 @@
 use Rattle.std.proofs.Common.{◌≡◌, refl, sym, ap, subst, ◌∙◌, ℕ, List, Option, None, Some, IsSome, Contains, ◌↔◌, Bool, true, false, ◌==◌, if◌then◌else◌}
 use Rattle.std.proofs.lemmas.Bool.{eqb-true, eq-eqb}
 use Rattle.unit_outcomes.specs.declared.outcome.Outcome.{Outcome}
-use Rattle.dep_keys.specs.KeyMaps.{tree_at}
+use Rattle.decode_jobs.specs.KeyMaps.{tree_at}
 use Rattle.decode_jobs.specs.Keys.{Key}
-use Rattle.key_slots.specs.Places.{place_at, numbers_held}
-use Rattle.key_slots.proofs.Held.{held_found, found_held}
+use Rattle.held_pictures.specs.Places.{place_at, numbers_held}
+use Rattle.held_pictures.proofs.Held.{held_found, found_held}
 use Rattle.picture_store.specs.declared.job_out.JobOut.{JobOut}
 use Rattle.picture_store.specs.Places.{PlacesValue}
 use Rattle.picture_store.specs.Due.{IsHeld}

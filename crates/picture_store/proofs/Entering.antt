@@ -2,10 +2,10 @@
 use Rattle.std.proofs.Common.{◌≡◌, refl, sym, ap, subst, ◌∙◌, ℕ, List, [], ◌∷◌, Option, None, Some, IsSome, Contains, slice_get, inl, inr}
 use Rattle.std.proofs.lemmas.Option.{same_Some}
 use Rattle.h264_controls.specs.declared.work.Work.{Work}
-use Rattle.dep_keys.specs.KeyMaps.{tree_at, tree_from, tree_of, entered, AreLive, IsKeyMap, IsNodeOf}
-use Rattle.dep_keys.specs.Nodes.{NodeOf}
+use Rattle.decode_jobs.specs.KeyMaps.{tree_at, tree_from, tree_of, entered, AreLive, IsKeyMap, IsNodeOf}
+use Rattle.decode_jobs.specs.Nodes.{NodeOf}
 use Rattle.decode_jobs.specs.Keys.{Key}
-use Rattle.key_slots.proofs.Members.{here, there}
+use Rattle.held_pictures.proofs.Members.{here, there}
 use Rattle.picture_store.specs.Schedules.{IsEntryOf, RefersTo}
 use Rattle.picture_store.specs.Kept.{Trees}
 

@@ -11,7 +11,7 @@ use Rattle.picture_store.specs.declared.answers.Landing.TheVariants.{Taken, Stal
 use Rattle.picture_store.specs.declared.job_out.JobOut.{JobOut}
 use Rattle.picture_store.specs.Stores.{StoreValue}
 use Rattle.picture_store.specs.Jobs.{LandsThere}
-use Rattle.key_slots.specs.Places.{place_at, numbers_held, pictures_held}
+use Rattle.held_pictures.specs.Places.{place_at, numbers_held, pictures_held}
 use Rattle.picture_store.specs.Places.{PlacesValue}
 use Rattle.picture_store.specs.Filling.{IsFilled}
 use Rattle.picture_store.specs.Kept.{Trees, key_for, keys_for, IsRight, IsJobRight, IsKept}

@@ -8,7 +8,7 @@ use Rattle.std.proofs.lemmas.List.Elements.{All-append, All-take, All-drop, All-
 use Rattle.std.proofs.lemmas.Bool.{eqb-true, eq-eqb}
 use Rattle.std.proofs.lemmas.Option.{same_Some}
 use Rattle.unit_outcomes.specs.declared.outcome.Outcome.{Outcome}
-use Rattle.dep_keys.specs.KeyMaps.{tree_at}
+use Rattle.decode_jobs.specs.KeyMaps.{tree_at}
 use Rattle.decode_jobs.specs.Jobs.{JobValue}
 use Rattle.decode_jobs.specs.Keys.{Key}
 use Rattle.picture_keys.specs.Known.{Known, key_of_outcome, known_with, keys_after, keys_of}
@@ -17,10 +17,10 @@ use Rattle.picture_store.specs.declared.job_out.JobOut.{JobOut}
 use Rattle.picture_store.specs.Stores.{OutValue}
 use Rattle.picture_store.specs.Showing.{IsPictureAt}
 use Rattle.picture_store.specs.Jobs.{IsSameJob, without}
-use Rattle.key_slots.specs.Places.{place_at, numbers_held}
+use Rattle.held_pictures.specs.Places.{place_at, numbers_held}
 use Rattle.picture_store.specs.Places.{PlacesValue}
 use Rattle.picture_store.specs.Kept.{Trees, key_for, keys_for, jobs_for, IsRight, IsJobRight, IsKept}
-use Rattle.key_slots.proofs.Held.{held_found, found_held}
+use Rattle.held_pictures.proofs.Held.{held_found, found_held}
 use Rattle.picture_store.proofs.Among.{held_among}
 use Rattle.picture_store.proofs.Lifting.{for_contains, contains_for}
 use Rattle.picture_store.proofs.Viewed.{none_not_some, Marked, seen, viewed}

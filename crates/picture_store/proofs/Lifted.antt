@@ -4,14 +4,14 @@ use Rattle.std.specs.Prelude.{Contains, slice_get}
 use Rattle.std.specs.Option.{option_map}
 use Rattle.std.proofs.lemmas.Option.{none-some, same_Some, slice_get-map}
 use Rattle.unit_outcomes.specs.declared.outcome.Outcome.{Outcome}
-use Rattle.dep_keys.specs.KeyMaps.{IsKeyMap, named, tree_at}
+use Rattle.decode_jobs.specs.KeyMaps.{IsKeyMap, named, tree_at}
 use Rattle.decode_jobs.specs.Keys.{Key}
 use Rattle.picture_keys.specs.Numbered.{AllStandFor, StandsFor}
-use Rattle.changed_units.specs.declared.changed.Changed.{Changed}
-use Rattle.changed_units.specs.Units.{ComparedUnit, compared, compared_units}
-use Rattle.changed_units.specs.Stretches.{IsChangedAt, IsLeast}
-use Rattle.changed_units.proofs.Lists.{contained}
-use Rattle.key_slots.proofs.Members.{among_map, among_source, first_or_among, nowhere}
+use Rattle.picture_keys.specs.declared.changed_units.changed.Changed.{Changed}
+use Rattle.picture_keys.specs.Units.{ComparedUnit, compared, compared_units}
+use Rattle.picture_keys.specs.Stretches.{IsChangedAt, IsLeast}
+use Rattle.picture_keys.proofs.Lists.{contained}
+use Rattle.held_pictures.proofs.Members.{among_map, among_source, first_or_among, nowhere}
 use Rattle.picture_store.specs.Kept.{Trees}
 
 -- a unit with its key in place of its number

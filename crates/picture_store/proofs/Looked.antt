@@ -11,8 +11,8 @@ use Rattle.picture_keys.specs.Known.{keys_of}
 use Rattle.picture_store.specs.declared.answers.Landing.{Landing}
 use Rattle.picture_store.specs.declared.answers.Landing.TheVariants.{Taken, Stale, Foreign}
 use Rattle.picture_store.specs.declared.job_out.JobOut.{JobOut}
-use Rattle.key_slots.specs.Places.{AreSame, place_of}
-use Rattle.key_slots.proofs.Members.{here, there, nowhere, first_or_among, All-from_contains}
+use Rattle.held_pictures.specs.Places.{AreSame, place_of}
+use Rattle.held_pictures.proofs.Members.{here, there, nowhere, first_or_among, All-from_contains}
 use Rattle.picture_store.specs.Places.{PlacesValue}
 use Rattle.picture_store.specs.Filling.{IsFilled}
 use Rattle.picture_store.specs.Kept.{Trees, keys_for, numbers_out, IsJobRight, IsKept, KeepsStored}

@@ -6,13 +6,13 @@ use Rattle.std.specs.Map.{keys_of as numbers_of}
 use Rattle.std.proofs.lemmas.List.{length-append, length-take-le}
 use Rattle.std.proofs.lemmas.List.Elements.{All-contains, All-map}
 use Rattle.unit_outcomes.specs.declared.outcome.Outcome.{Outcome}
-use Rattle.dep_keys.specs.Trees.Tree.{Bare, Gap, With}
+use Rattle.decode_jobs.specs.Trees.Tree.{Bare, Gap, With}
 use Rattle.decode_jobs.specs.Keys.{Key}
 use Rattle.picture_keys.specs.Known.{keys_of}
 use Rattle.picture_keys.specs.Numbered.{AllStandFor}
-use Rattle.key_slots.specs.Places.{place_at, numbers_held, uses_at}
-use Rattle.key_slots.proofs.Members.{among_map, All-from_contains}
-use Rattle.key_slots.proofs.Slots.{used_some}
+use Rattle.held_pictures.specs.Places.{place_at, numbers_held, uses_at}
+use Rattle.held_pictures.proofs.Members.{among_map, All-from_contains}
+use Rattle.held_pictures.proofs.Slots.{used_some}
 use Rattle.picture_store.specs.declared.job_out.JobOut.{JobOut}
 use Rattle.picture_store.specs.Places.{PlacesValue, ArePlaced, carried, held_or}
 use Rattle.picture_store.specs.Kept.{Trees, AreRight, jobs_for, keys_for, numbers_out, IsJobRight, IsKept}

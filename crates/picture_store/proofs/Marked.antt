@@ -1,7 +1,7 @@
 -- What is marked: it stays where the trees of the marked keys do, and says which units are altered.
 use Rattle.std.proofs.Common.{◌≡◌, refl, ap, sym, ◌∙◌, subst, ℕ, zero, suc, List, [], ◌∷◌, Option, None, Some, inl, inr, Bool, true, false, ◌↔◌, IsTrue, Contains, not, slice_get, get_or}
 use Rattle.std.specs.List.{filter_map}
-use Rattle.dep_keys.specs.KeyMaps.{IsKeyMap, tree_at}
+use Rattle.decode_jobs.specs.KeyMaps.{IsKeyMap, tree_at}
 use Rattle.decode_jobs.specs.Keys.{Key}
 use Rattle.decode_jobs.specs.Inputs.{InputValue}
 use Rattle.unit_outcomes.specs.declared.outcome.Outcome.{Outcome}
@@ -11,7 +11,7 @@ use Rattle.picture_store.specs.declared.job_out.JobOut.{JobOut}
 use Rattle.picture_store.specs.Altered.{IsAltered}
 use Rattle.picture_store.specs.Stores.{StoreValue}
 use Rattle.picture_store.specs.Places.{PlacesValue}
-use Rattle.key_slots.proofs.Members.{here, there, nowhere, first_or_among, map_same}
+use Rattle.held_pictures.proofs.Members.{here, there, nowhere, first_or_among, map_same}
 use Rattle.picture_store.specs.Kept.{Trees, key_for, keys_for, IsKept, KeepsMarked}
 use Rattle.picture_store.specs.Marks.{AreMarked, marked_for, numbers_marked}
 use Rattle.picture_store.proofs.Lifting.{for_contains, contains_for}

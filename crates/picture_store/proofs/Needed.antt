@@ -4,7 +4,7 @@ use Rattle.std.specs.List.{zip}
 use Rattle.std.proofs.lemmas.List.{drop_all}
 use Rattle.std.proofs.lemmas.List.Elements.{All-nil, All-cons, All-head, All-tail}
 use Rattle.unit_outcomes.specs.declared.outcome.Outcome.{Outcome}
-use Rattle.pictures.specs.declared.frames.Frame.{Frame}
+use Rattle.h264_types.specs.declared.pictures.frames.Frame.{Frame}
 use Rattle.request_core.specs.States.{FoldState, marked_ids}
 use Rattle.decode_jobs.specs.Keys.{Key}
 use Rattle.picture_keys.specs.Known.{Known, key_at, known_after, keys_after, keys_of}

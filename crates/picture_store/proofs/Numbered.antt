@@ -2,7 +2,7 @@
 use Rattle.std.proofs.Common.{◌≡◌, refl, ap, sym, subst, ◌∙◌, ℕ, zero, suc, List, [], ◌∷◌, length, Option, None, Some, ◌↔◌}
 use Rattle.std.specs.Prelude.{slice_get, Contains}
 use Rattle.std.proofs.lemmas.Option.{slice_get_read, slice_get_within, get_or_from_slice_get}
-use Rattle.dep_keys.specs.KeyMaps.{tree_at, IsKeyMap}
+use Rattle.decode_jobs.specs.KeyMaps.{tree_at, IsKeyMap}
 use Rattle.decode_jobs.specs.Keys.{Key}
 use Rattle.picture_keys.specs.Numbered.{StandsFor, AllStandFor}
 use Rattle.picture_store.specs.Stores.{AreNumbered, IsNumberInUse, StoreValue, unit_keys}

@@ -4,15 +4,15 @@ use Rattle.std.specs.List.{zip}
 use Rattle.std.proofs.lemmas.Bool.{eqb-true, eq-eqb}
 use Rattle.std.proofs.lemmas.Option.{get_or_from_slice_get, same_Some}
 use Rattle.unit_outcomes.specs.declared.outcome.Outcome.{Outcome}
-use Rattle.dep_keys.specs.KeyMaps.{tree_at}
+use Rattle.decode_jobs.specs.KeyMaps.{tree_at}
 use Rattle.decode_jobs.specs.Keys.{Key}
 use Rattle.picture_keys.specs.Known.{keys_of}
-use Rattle.key_slots.specs.Places.{place_at}
-use Rattle.key_slots.proofs.Members.{here, there, nowhere, first_or_among}
-use Rattle.key_slots.specs.Held.{IsWaiting}
-use Rattle.key_slots.specs.Needed.{IsNeeded}
-use Rattle.key_slots.proofs.Closing.{needed_more}
-use Rattle.key_slots.proofs.Standing.{stands_at, number_there, tree_there, number_of_key, key_of_number}
+use Rattle.held_pictures.specs.Places.{place_at}
+use Rattle.held_pictures.proofs.Members.{here, there, nowhere, first_or_among}
+use Rattle.held_pictures.specs.Held.{IsWaiting}
+use Rattle.held_pictures.specs.Needed.{IsNeeded}
+use Rattle.held_pictures.proofs.Closing.{needed_more}
+use Rattle.held_pictures.proofs.Standing.{stands_at, number_there, tree_there, number_of_key, key_of_number}
 use Rattle.picture_store.specs.declared.job_out.JobOut.{JobOut}
 use Rattle.picture_store.specs.Stores.{OutValue, StoreValue, IsReady}
 use Rattle.picture_store.specs.Showing.{HasKey}

@@ -8,14 +8,14 @@ use Rattle.h264_controls.specs.References.{timestamp}
 use Rattle.unit_outcomes.specs.declared.outcome.Outcome.{Outcome}
 use Rattle.unit_outcomes.specs.declared.outcome.Outcome.TheVariants as outcomes
 use Rattle.unit_outcomes.specs.declared.outcome.Plan.{Plan}
-use Rattle.dep_keys.specs.KeyMaps.{tree_at, tree_of, IsNodeOf}
-use Rattle.dep_keys.specs.Nodes.{NodeOf}
+use Rattle.decode_jobs.specs.KeyMaps.{tree_at, tree_of, IsNodeOf}
+use Rattle.decode_jobs.specs.Nodes.{NodeOf}
 use Rattle.decode_jobs.specs.declared.input.Reference.{Reference}
 use Rattle.decode_jobs.specs.Inputs.{InputValue}
 use Rattle.decode_jobs.specs.Keys.{Key, works_of, named_by_all}
 use Rattle.picture_keys.specs.Known.{Known, key_of, key_of_outcome}
 use Rattle.picture_keys.specs.Decodable.{CanDecode, OutcomeCanDecode}
-use Rattle.key_slots.specs.Places.{numbers_held}
+use Rattle.held_pictures.specs.Places.{numbers_held}
 use Rattle.picture_store.specs.Places.{PlacesValue}
 use Rattle.picture_store.specs.Stores.{IsReady}
 use Rattle.picture_store.specs.Kept.{Trees, AreRight, keys_for}
@@ -24,7 +24,7 @@ use Rattle.picture_store.specs.Naming.{AreCovered, IsShown}
 use Rattle.picture_store.specs.Referenced.{AreInOrder, frames_named, frames_of, times_of}
 use Rattle.picture_store.specs.Inputs.{HasKnown, IsInputOf}
 use Rattle.picture_store.proofs.Ready.{are_held}
-use Rattle.key_slots.proofs.Entries.{entries_many}
+use Rattle.held_pictures.proofs.Entries.{entries_many}
 use Rattle.picture_store.proofs.Entries.{IsKnown, all_known, covered, of_unit}
 use Rattle.picture_store.proofs.Shown.{IsOfItsUnit, all_there, shows_known, whole}
 use Rattle.picture_store.proofs.Referring.{there_in_order}

@@ -9,7 +9,7 @@ use Rattle.std.proofs.lemmas.Bool.Decides.{nat_tests}
 use Rattle.std.proofs.lemmas.List.Elements.{All-contains, All-from_recursion}
 use Rattle.std.proofs.lemmas.List.Sorted.{Contains-permutation, IsPermutation-sym}
 use Rattle.std.specs.declared.cmp.Reverse.{Reverse}
-use Rattle.key_slots.proofs.Members.{here, there, first_or_among}
+use Rattle.held_pictures.proofs.Members.{here, there, first_or_among}
 use Rattle.picture_store.specs.declared.job_out.JobOut.{JobOut}
 use Rattle.picture_store.specs.Due.{IsDueNumber, IsDueThere, IsNotDue}
 use Rattle.picture_store.specs.Kept.{Trees}

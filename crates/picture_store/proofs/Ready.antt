@@ -4,16 +4,16 @@ use Rattle.std.specs.Option.{unwrap_or}
 use Rattle.std.proofs.lemmas.List.{get_or-map, length-map}
 use Rattle.std.proofs.lemmas.List.Elements.{Contains-get_or}
 use Rattle.h264_controls.specs.declared.work.Work.{Work}
-use Rattle.dep_keys.specs.KeyMaps.{tree_at, tree_from, entered, AreLive}
-use Rattle.dep_keys.specs.Trees.Tree.{Bare}
+use Rattle.decode_jobs.specs.KeyMaps.{tree_at, tree_from, entered, AreLive}
+use Rattle.decode_jobs.specs.Trees.Tree.{Bare}
 use Rattle.decode_jobs.specs.Keys.{Key}
-use Rattle.key_slots.specs.Places.{place_at, numbers_held}
-use Rattle.key_slots.specs.Going.{AreAbove, AreRising}
+use Rattle.held_pictures.specs.Places.{place_at, numbers_held}
+use Rattle.held_pictures.specs.Going.{AreAbove, AreRising}
 use Rattle.picture_store.specs.Places.{PlacesValue}
 use Rattle.picture_store.specs.Stores.{IsReady}
 use Rattle.picture_store.specs.Kept.{Trees, AreRight, key_for, keys_for}
 use Rattle.picture_store.specs.Due.{IsHeld, AreHeld}
-use Rattle.key_slots.proofs.Held.{held_found, found_held, held_rising}
+use Rattle.held_pictures.proofs.Held.{held_found, found_held, held_rising}
 use Rattle.picture_store.proofs.Loops.{first_in, later_in, in_cases}
 use Rattle.decode_jobs.specs.Inputs.{InputValue}
 

@@ -8,20 +8,20 @@ use Rattle.std.proofs.lemmas.List.Elements.{All-contains}
 use Rattle.std.proofs.lemmas.Cmp.{nat_eq_equiv}
 use Rattle.std.proofs.lemmas.Map.Views.{exact_unsigned_eq, Contains-from_lookup, IsSome-lookup_from_Contains}
 use Rattle.unit_outcomes.specs.declared.outcome.Outcome.{Outcome}
-use Rattle.dep_keys.specs.KeyMaps.{tree_at}
+use Rattle.decode_jobs.specs.KeyMaps.{tree_at}
 use Rattle.decode_jobs.specs.Keys.{Key}
 use Rattle.picture_keys.specs.Known.{keys_of}
 use Rattle.picture_keys.specs.Numbered.{AllStandFor}
 use Rattle.picture_keys.specs.Decodable.{AllCanDecode}
 use Rattle.picture_store.specs.declared.job_out.JobOut.{JobOut}
-use Rattle.key_slots.specs.Left.{IsLeft, ArePut}
+use Rattle.held_pictures.specs.Left.{IsLeft, ArePut}
 use Rattle.picture_store.specs.Changes.{Refits, RefitsLosing}
-use Rattle.key_slots.specs.Places.{place_at, numbers_held}
+use Rattle.held_pictures.specs.Places.{place_at, numbers_held}
 use Rattle.picture_store.specs.Places.{PlacesValue, carried, held_or, ArePlaced}
 use Rattle.picture_store.specs.Kept.{Trees, key_for, keys_for, IsRight, IsKept}
-use Rattle.key_slots.proofs.Members.{among_map, among_source, left_among, All-from_contains}
+use Rattle.held_pictures.proofs.Members.{among_map, among_source, left_among, All-from_contains}
 use Rattle.picture_store.proofs.Viewed.{none_not_some, Marked, viewed}
-use Rattle.key_slots.proofs.Held.{held_found, found_held}
+use Rattle.held_pictures.proofs.Held.{held_found, found_held}
 use Rattle.picture_store.proofs.Lifting.{for_contains, contains_for, left_for, put_for}
 use Rattle.picture_store.proofs.Numbered.{one_to_one}
 use Rattle.picture_store.proofs.Stays.{key_is, stand_live, stand_number}

@@ -3,8 +3,8 @@
 use Rattle.std.proofs.Common.{◌≡◌, sym, ap, subst, ◌∙◌, ℕ, ◌<◌, List, Option, None, Some, IsSome, inl, inr, rules}
 use Rattle.std.specs.Map.{values_of}
 use Rattle.unit_outcomes.specs.declared.outcome.Outcome.{Outcome}
-use Rattle.dep_keys.specs.KeyMaps.{IsKeyMap}
-use Rattle.key_slots.specs.Places.{AreSame, place_of, place_at}
+use Rattle.decode_jobs.specs.KeyMaps.{IsKeyMap}
+use Rattle.held_pictures.specs.Places.{AreSame, place_of, place_at}
 use Rattle.picture_store.specs.declared.job_out.JobOut.{JobOut}
 use Rattle.picture_store.specs.declared.schedule.Schedule.{Schedule}
 use Rattle.picture_store.specs.Places.{PlacesValue}

@@ -9,18 +9,18 @@ use Rattle.std.proofs.lemmas.Option.{same_Some}
 use Rattle.std.specs.declared.cmp.Reverse.{Reverse}
 use Rattle.h264_controls.specs.declared.work.Work.{Work}
 use Rattle.unit_outcomes.specs.declared.outcome.Outcome.{Outcome}
-use Rattle.dep_keys.specs.KeyMaps.{tree_at}
-use Rattle.dep_keys.specs.Trees.Tree.{Bare, Gap, With}
+use Rattle.decode_jobs.specs.KeyMaps.{tree_at}
+use Rattle.decode_jobs.specs.Trees.Tree.{Bare, Gap, With}
 use Rattle.decode_jobs.specs.Keys.{Key, named_by_all, tree_with, works_of}
 use Rattle.picture_keys.specs.Known.{key_at}
-use Rattle.key_slots.specs.Places.{place_at, numbers_held}
-use Rattle.key_slots.proofs.Held.{held_found, found_held}
-use Rattle.key_slots.proofs.Members.{nowhere, first_or_among, among_map}
-use Rattle.key_slots.specs.Held.{IsHeld, IsWaiting}
-use Rattle.key_slots.specs.Needed.{Names}
-use Rattle.key_slots.specs.Needed.IsNeeded.{itself, named}
-use Rattle.key_slots.proofs.Closing.{needed_more, needed_waits}
-use Rattle.key_slots.proofs.Standing.{known_there, named_key, own_key}
+use Rattle.held_pictures.specs.Places.{place_at, numbers_held}
+use Rattle.held_pictures.proofs.Held.{held_found, found_held}
+use Rattle.held_pictures.proofs.Members.{nowhere, first_or_among, among_map}
+use Rattle.held_pictures.specs.Held.{IsHeld, IsWaiting}
+use Rattle.held_pictures.specs.Needed.{Names}
+use Rattle.held_pictures.specs.Needed.IsNeeded.{itself, named}
+use Rattle.held_pictures.proofs.Closing.{needed_more, needed_waits}
+use Rattle.held_pictures.proofs.Standing.{known_there, named_key, own_key}
 use Rattle.picture_store.specs.declared.answers.Landing.{Landing}
 use Rattle.picture_store.specs.declared.answers.Landing.TheVariants.{Taken, Stale, Foreign}
 use Rattle.picture_store.specs.declared.job_out.JobOut.{JobOut}

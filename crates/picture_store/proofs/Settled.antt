@@ -9,13 +9,13 @@ use Rattle.unit_outcomes.specs.declared.outcome.Outcome.{Outcome}
 use Rattle.picture_store.specs.declared.answers.Landing.{Landing}
 use Rattle.picture_store.specs.declared.answers.Landing.TheVariants.{Taken, Stale, Foreign}
 use Rattle.picture_store.specs.declared.job_out.JobOut.{JobOut}
-use Rattle.key_slots.specs.Places.{place_at}
+use Rattle.held_pictures.specs.Places.{place_at}
 use Rattle.picture_store.specs.Places.{PlacesValue, ArePlaced, held_or}
 use Rattle.picture_store.specs.Filling.{IsFilled}
 use Rattle.picture_store.specs.Kept.{Trees, numbers_out, IsKept}
 use Rattle.picture_store.specs.Due.{IsHeld, IsNotDue}
 use Rattle.picture_store.specs.Settled.{NeedsNone, AreSettled}
-use Rattle.key_slots.proofs.Members.{here, there, nowhere, first_or_among}
+use Rattle.held_pictures.proofs.Members.{here, there, nowhere, first_or_among}
 use Rattle.decode_jobs.specs.Inputs.{InputValue}
 use Rattle.decode_jobs.specs.Keys.{Key}
 

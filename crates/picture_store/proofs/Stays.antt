@@ -7,17 +7,17 @@ use Rattle.std.specs.List.{zip}
 use Rattle.std.specs.Option.{is_some}
 use Rattle.std.proofs.lemmas.List.Elements.{All-contains}
 use Rattle.unit_outcomes.specs.declared.outcome.Outcome.{Outcome}
-use Rattle.dep_keys.specs.KeyMaps.{tree_at, IsKeyMap}
-use Rattle.dep_keys.specs.Trees.Tree.{Bare}
+use Rattle.decode_jobs.specs.KeyMaps.{tree_at, IsKeyMap}
+use Rattle.decode_jobs.specs.Trees.Tree.{Bare}
 use Rattle.decode_jobs.specs.Keys.{Key}
 use Rattle.picture_keys.specs.Known.{keys_of}
 use Rattle.picture_keys.specs.Numbered.{StandsFor, AllStandFor}
 use Rattle.picture_store.specs.declared.job_out.JobOut.{JobOut}
-use Rattle.key_slots.specs.Places.{place_at, numbers_held}
+use Rattle.held_pictures.specs.Places.{place_at, numbers_held}
 use Rattle.picture_store.specs.Places.{PlacesValue}
 use Rattle.picture_store.specs.Kept.{Trees, key_for, keys_for, jobs_for, IsRight, IsJobRight, IsKept, IsStored, KeepsStored}
-use Rattle.key_slots.proofs.Members.{here, there, nowhere, first_or_among, among_map, among_source, map_same, All-from_contains}
-use Rattle.key_slots.proofs.Held.{held_found}
+use Rattle.held_pictures.proofs.Members.{here, there, nowhere, first_or_among, among_map, among_source, map_same, All-from_contains}
+use Rattle.held_pictures.proofs.Held.{held_found}
 use Rattle.picture_store.proofs.Viewed.{Marked, viewed}
 use Rattle.decode_jobs.specs.Inputs.{InputValue}
 

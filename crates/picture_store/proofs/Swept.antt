@@ -3,12 +3,12 @@ use Rattle.std.proofs.Common.{◌≡◌, refl, ap, subst, ◌∙◌, ℕ, ◌+�
 use Rattle.std.proofs.lemmas.Bool.{cases_lt, eqb-true}
 use Rattle.std.proofs.lemmas.List.Sums.{sum_by-cons}
 use Rattle.std.specs.declared.alloc.AllocError.{AllocError}
-use Rattle.dep_keys.specs.KeyMaps.{tree_at}
-use Rattle.dep_keys.specs.Sweeping.{IsSwept, IsNeeded}
+use Rattle.decode_jobs.specs.KeyMaps.{tree_at}
+use Rattle.decode_jobs.specs.Sweeping.{IsSwept, IsNeeded}
 use Rattle.decode_jobs.specs.Keys.{Key}
-use Rattle.key_slots.specs.Counting.{once_if, times, times_in}
-use Rattle.key_slots.proofs.Counts.{counted_in, some_counted}
-use Rattle.key_slots.proofs.Members.{here, there}
+use Rattle.held_pictures.specs.Counting.{once_if, times, times_in}
+use Rattle.held_pictures.proofs.Counts.{counted_in, some_counted}
+use Rattle.held_pictures.proofs.Members.{here, there}
 use Rattle.picture_store.specs.declared.job_out.JobOut.{JobOut}
 use Rattle.picture_store.specs.Kept.{AreSwept, IsStored, Trees}
 

@@ -6,7 +6,7 @@ use Rattle.std.proofs.lemmas.List.{map-append, length-take-le}
 use Rattle.std.proofs.lemmas.List.Elements.{All-contains, All-push}
 use Rattle.unit_outcomes.specs.declared.outcome.Outcome.{Outcome}
 use Rattle.unit_outcomes.specs.declared.outcome.Outcome.TheVariants.{Plan as Planned, Fault as Faulty, Empty}
-use Rattle.dep_keys.specs.KeyMaps.{tree_at}
+use Rattle.decode_jobs.specs.KeyMaps.{tree_at}
 use Rattle.decode_jobs.specs.Inputs.{InputValue, is_whole}
 use Rattle.decode_jobs.specs.Jobs.{JobValue}
 use Rattle.decode_jobs.specs.Keys.{Key, named_by_all}
@@ -16,16 +16,16 @@ use Rattle.picture_keys.specs.Numbered.{AllStandFor}
 use Rattle.picture_store.specs.declared.job_out.JobOut.{JobOut}
 use Rattle.picture_store.specs.Stores.{OutValue, StoreValue, IsReady}
 use Rattle.picture_store.specs.Jobs.{IsDue, IsAnyDue, Gives, Takes}
-use Rattle.key_slots.specs.Places.{place_at, numbers_held, pictures_held}
+use Rattle.held_pictures.specs.Places.{place_at, numbers_held, pictures_held}
 use Rattle.picture_store.specs.Places.{PlacesValue}
 use Rattle.picture_store.specs.Due.{IsDueNumber, IsNotDue}
 use Rattle.picture_store.specs.Inputs.{HasKnown, IsInputOf}
 use Rattle.picture_store.specs.Kept.{Trees, key_for, keys_for, jobs_for, numbers_out, IsJobRight, IsKept}
-use Rattle.key_slots.proofs.Members.{among_map, among_source, All-from_contains}
+use Rattle.held_pictures.proofs.Members.{among_map, among_source, All-from_contains}
 use Rattle.picture_store.proofs.Viewed.{Marked, seen, viewed, none_not_some}
 use Rattle.picture_store.proofs.Stays.{key_is, stand_live, stand_number}
 use Rattle.picture_store.proofs.Landed.{awaited_for, held_for, found_length, keyed, length-zip_same}
-use Rattle.key_slots.proofs.UnitAt.{IsAt, unit_at, second_at, stand_take}
+use Rattle.held_pictures.proofs.UnitAt.{IsAt, unit_at, second_at, stand_take}
 
 -- the first of two lists
 take_front : {X : Type 0} (xs ys : List X) → take (length xs) (xs ++ ys) ≡ xs

@@ -6,8 +6,8 @@ use Rattle.std.proofs.lemmas.List.Elements.{All-contains, Contains-append_left, 
 use Rattle.unit_outcomes.specs.declared.outcome.Outcome.{Outcome}
 use Rattle.decode_jobs.specs.Inputs.{InputValue}
 use Rattle.decode_jobs.specs.Keys.{Key}
-use Rattle.key_slots.proofs.Members.{here, All-from_contains}
-use Rattle.picture_cache.specs.Bounded.{Bounded}
+use Rattle.held_pictures.proofs.Members.{here, All-from_contains}
+use Rattle.held_pictures.specs.Bounded.{Bounded}
 use Rattle.picture_store.specs.declared.job_out.JobOut.{JobOut}
 use Rattle.picture_store.specs.Places.{PlacesValue}
 use Rattle.picture_store.specs.Kept.{Trees, key_for, keys_for, IsRight, IsKept}

@@ -7,15 +7,15 @@ use Rattle.std.proofs.lemmas.List.{drop-drop}
 use Rattle.std.proofs.lemmas.List.Sums.{sum_by-append}
 use Rattle.std.proofs.lemmas.List.Elements.{Contains-append_left, Contains-append_right}
 use Rattle.std.proofs.lemmas.Map.Views.{exact_unsigned_eq, Contains-from_lookup}
-use Rattle.key_slots.specs.Left.{IsLeft, ArePut}
-use Rattle.key_slots.specs.Counting.{once_at, times, times_in}
-use Rattle.key_slots.specs.Places.{AreSame, IsTakenUp, slot_at, place_of, place_at, uses_at, numbers_held, kept_or}
-use Rattle.key_slots.specs.Going.{IsHeldBefore}
-use Rattle.key_slots.proofs.Members.{among_map, among_source}
-use Rattle.key_slots.proofs.Slots.{place_used, place_unused, used_some}
-use Rattle.key_slots.proofs.Going.{left_among_same, left_stays}
-use Rattle.key_slots.proofs.Held.{held_found, found_held, held_rising}
-use Rattle.key_slots.proofs.Counts.{counted_some, some_counted, counted_in}
+use Rattle.held_pictures.specs.Left.{IsLeft, ArePut}
+use Rattle.held_pictures.specs.Counting.{once_at, times, times_in}
+use Rattle.held_pictures.specs.Places.{AreSame, IsTakenUp, slot_at, place_of, place_at, uses_at, numbers_held, kept_or}
+use Rattle.held_pictures.specs.Going.{IsHeldBefore}
+use Rattle.held_pictures.proofs.Members.{among_map, among_source}
+use Rattle.held_pictures.proofs.Slots.{place_used, place_unused, used_some}
+use Rattle.held_pictures.proofs.Going.{left_among_same, left_stays}
+use Rattle.held_pictures.proofs.Held.{held_found, found_held, held_rising}
+use Rattle.held_pictures.proofs.Counts.{counted_some, some_counted, counted_in}
 use Rattle.picture_store.specs.Places.{PlacesValue, carried, held_or}
 use Rattle.picture_store.specs.Recounts.{IsCountable, IsRecounted}
 

@@ -5,14 +5,14 @@ use Rattle.std.proofs.lemmas.Option.{none-some, slice_get_within, get_or_from_sl
 use Rattle.h264_controls.specs.declared.work.Work.{Work}
 use Rattle.unit_outcomes.specs.declared.outcome.Outcome.TheVariants.{Plan as Planned}
 use Rattle.unit_outcomes.specs.declared.outcome.Plan.{Plan}
-use Rattle.dep_keys.specs.KeyMaps.{entered}
+use Rattle.decode_jobs.specs.KeyMaps.{entered}
 use Rattle.decode_jobs.specs.Keys.{Key, named_by_all, tree_with, works_of}
 use Rattle.picture_keys.specs.Known.{Known, key_at, known_after}
-use Rattle.key_slots.proofs.Members.{here, there}
-use Rattle.key_slots.specs.Needed.IsNeeded.{itself, named}
-use Rattle.key_slots.proofs.Closing.{needed_waits}
-use Rattle.key_slots.proofs.Lookups.{IsLastOf, known_of}
-use Rattle.key_slots.proofs.Standing.{valid_there}
+use Rattle.held_pictures.proofs.Members.{here, there}
+use Rattle.held_pictures.specs.Needed.IsNeeded.{itself, named}
+use Rattle.held_pictures.proofs.Closing.{needed_waits}
+use Rattle.held_pictures.proofs.Lookups.{IsLastOf, known_of}
+use Rattle.held_pictures.proofs.Standing.{valid_there}
 use Rattle.picture_store.specs.Stores.{StoreValue, units_of, unit_keys, IsInUse, IsReady}
 use Rattle.picture_store.specs.Showing.{HasKey}
 use Rattle.picture_store.specs.Pending.{IsPending, IsNeededBy, IsStuck}

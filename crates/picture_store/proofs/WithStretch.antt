@@ -5,12 +5,12 @@ use Rattle.std.proofs.lemmas.List.{drop-drop, length-append, length-drop, length
 use Rattle.std.proofs.lemmas.List.Elements.{Contains-append_left, Contains-append_right, Contains-append_cases}
 use Rattle.std.proofs.lemmas.Option.{slice_get_within}
 use Rattle.unit_outcomes.specs.declared.outcome.Outcome.{Outcome}
-use Rattle.changed_units.specs.declared.changed.Changed.{Changed}
-use Rattle.changed_units.specs.Units.{AreDifferent, ComparedUnit, compared_units}
-use Rattle.changed_units.specs.Stretches.{IsLeast, no_units}
-use Rattle.changed_units.proofs.Lists.{placed_once, at_behind, at_front, place_of}
-use Rattle.changed_units.proofs.Rows.{compared_append, id_at, length-compared}
-use Rattle.changed_units.proofs.Least.{least_all_same, least_none}
+use Rattle.picture_keys.specs.declared.changed_units.changed.Changed.{Changed}
+use Rattle.picture_keys.specs.Units.{AreDifferent, ComparedUnit, compared_units}
+use Rattle.picture_keys.specs.Stretches.{IsLeast, no_units}
+use Rattle.picture_keys.proofs.Lists.{placed_once, at_behind, at_front, place_of}
+use Rattle.picture_keys.proofs.Rows.{compared_append, id_at, length-compared}
+use Rattle.picture_keys.proofs.Least.{least_all_same, least_none}
 use Rattle.picture_store.specs.declared.stretch.Stretch.{Stretch}
 use Rattle.picture_store.specs.Stretches.{IsStretch, ids_with, outcomes_with, replaced}
 

@@ -2,7 +2,7 @@
 use Rattle.std.specs.Prelude.{◌≡◌, ℕ, List, ◌⊎◌, ◌↔◌, Contains}
 use Rattle.unit_outcomes.specs.declared.outcome.Outcome.{Outcome}
 use Rattle.decode_jobs.specs.Keys.{Key}
-use Rattle.key_slots.specs.Left.{IsLeft, ArePut}
+use Rattle.held_pictures.specs.Left.{IsLeft, ArePut}
 use Rattle.picture_store.specs.Stores.{StoreValue, AreOneToOne, IsInUse}
 
 module _ {P : Type 0} where

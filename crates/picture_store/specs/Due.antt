@@ -1,10 +1,10 @@
 -- When the key of a number is due.
 use Rattle.std.specs.Prelude.{◌≡◌, ℕ, List, [], ◌∷◌, Contains, Option, None, Some, IfSome, slice_get}
-use Rattle.dep_keys.specs.KeyMaps.{tree_at}
-pub use Rattle.key_slots.specs.Held.{IsHeld}
+use Rattle.decode_jobs.specs.KeyMaps.{tree_at}
+pub use Rattle.held_pictures.specs.Held.{IsHeld}
 use Rattle.decode_jobs.specs.Keys.{Key}
 use Rattle.picture_store.specs.declared.job_out.JobOut.{JobOut}
-use Rattle.key_slots.specs.Places.{place_at, numbers_held}
+use Rattle.held_pictures.specs.Places.{place_at, numbers_held}
 use Rattle.picture_store.specs.Places.{PlacesValue}
 use Rattle.picture_store.specs.Stores.{IsReady}
 use Rattle.picture_store.specs.Kept.{Trees, keys_for, numbers_out}

@@ -2,7 +2,7 @@
 use Rattle.std.specs.Prelude.{◌≡◌, ℕ, ◌==◌, ◌∷◌, IsPermutation, None, Some, if◌then◌else◌}
 use Rattle.picture_store.specs.declared.answers.Landing.{Landing}
 use Rattle.picture_store.specs.declared.answers.Landing.TheVariants.{Taken, Stale, Foreign}
-use Rattle.key_slots.specs.Places.{place_at, pictures_held}
+use Rattle.held_pictures.specs.Places.{place_at, pictures_held}
 use Rattle.picture_store.specs.Places.{PlacesValue}
 
 module _ {P : Type 0} where

@@ -2,7 +2,7 @@
 use Rattle.std.specs.Prelude.{◌≡◌, ℕ, IsTrue}
 use Rattle.unit_outcomes.specs.declared.outcome.Outcome.{Outcome}
 use Rattle.unit_outcomes.specs.declared.outcome.Outcome.TheVariants as outcomes
-use Rattle.dep_keys.specs.KeyMaps.{tree_at}
+use Rattle.decode_jobs.specs.KeyMaps.{tree_at}
 use Rattle.decode_jobs.specs.Inputs.{InputValue, is_whole}
 use Rattle.picture_keys.specs.Known.{Known, key_of_outcome}
 use Rattle.picture_keys.specs.Decodable.{OutcomeCanDecode}

@@ -1,7 +1,7 @@
 -- What is stored of a mark: the numbers of the marked keys, and a flag for each.
 use Rattle.std.specs.Prelude.{◌≡◌, ℕ, List, [], ◌↔◌, Bool, false, Contains, Option, Some, IsTrue, slice_index_or}
 use Rattle.std.specs.Option.{option_map, unwrap_or}
-use Rattle.dep_keys.specs.KeyMaps.{tree_at}
+use Rattle.decode_jobs.specs.KeyMaps.{tree_at}
 use Rattle.decode_jobs.specs.Keys.{Key}
 use Rattle.picture_store.specs.Kept.{Trees, keys_for}
 

@@ -1,6 +1,6 @@
 -- Units that are pending, the units that each of them needs, and which of these are due.
 use Rattle.std.specs.Prelude.{ℕ, map, Contains}
-use Rattle.key_slots.specs.Needed.{IsNeeded}
+use Rattle.held_pictures.specs.Needed.{IsNeeded}
 use Rattle.decode_jobs.specs.Keys.{Key}
 use Rattle.picture_store.specs.Stores.{StoreValue, units_of}
 use Rattle.picture_store.specs.Showing.{HasKey}

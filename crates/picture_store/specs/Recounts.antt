@@ -2,9 +2,9 @@
 -- others.
 use Rattle.std.specs.Prelude.{◌≡◌, ℕ, ◌<◌, List, ◌++◌, ◌⊎◌, Contains, Option, Some, IsSome}
 use Rattle.std.specs.Map.{keys_of as numbers_of}
-use Rattle.key_slots.specs.Left.{IsLeft, ArePut}
-use Rattle.key_slots.specs.Counting.{times, times_in}
-use Rattle.key_slots.specs.Places.{place_at, uses_at, numbers_held}
+use Rattle.held_pictures.specs.Left.{IsLeft, ArePut}
+use Rattle.held_pictures.specs.Counting.{times, times_in}
+use Rattle.held_pictures.specs.Places.{place_at, uses_at, numbers_held}
 use Rattle.picture_store.specs.Places.{PlacesValue, ArePlaced}
 
 module _ {P : Type 0} where

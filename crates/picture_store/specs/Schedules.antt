@@ -5,10 +5,10 @@ use Rattle.std.specs.List.Sorted.{IsNonDecreasingBy}
 use Rattle.std.specs.Ordering.{nat_cmp}
 use Rattle.std.specs.declared.cmp.Reverse.{Reverse}
 use Rattle.unit_outcomes.specs.declared.outcome.Outcome.{Outcome}
-use Rattle.dep_keys.specs.KeyMaps.{tree_at}
-use Rattle.dep_keys.specs.Trees.Tree.{Bare, Gap, With}
-use Rattle.key_slots.specs.Held.{IsHeld, IsWaiting}
-use Rattle.key_slots.specs.Needed.{IsNeeded}
+use Rattle.decode_jobs.specs.KeyMaps.{tree_at}
+use Rattle.decode_jobs.specs.Trees.Tree.{Bare, Gap, With}
+use Rattle.held_pictures.specs.Held.{IsHeld, IsWaiting}
+use Rattle.held_pictures.specs.Needed.{IsNeeded}
 use Rattle.decode_jobs.specs.Keys.{Key}
 use Rattle.picture_store.specs.declared.answers.Landing.{Landing}
 use Rattle.picture_store.specs.declared.answers.Landing.TheVariants.{Taken, Stale, Foreign}

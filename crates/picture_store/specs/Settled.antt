@@ -3,8 +3,8 @@ use Rattle.std.specs.Prelude.{◌≡◌, ℕ, ◌<◌, ◌≤◌, List, ◌⊎�
 use Rattle.std.specs.List.{zip}
 use Rattle.std.specs.Map.{keys_of as numbers_of}
 use Rattle.unit_outcomes.specs.declared.outcome.Outcome.{Outcome}
-use Rattle.key_slots.specs.Counting.{times}
-use Rattle.key_slots.specs.Places.{uses_at}
+use Rattle.held_pictures.specs.Counting.{times}
+use Rattle.held_pictures.specs.Places.{uses_at}
 use Rattle.picture_store.specs.declared.job_out.JobOut.{JobOut}
 use Rattle.picture_store.specs.declared.schedule.Schedule.{Schedule}
 use Rattle.picture_store.specs.Places.{PlacesValue}

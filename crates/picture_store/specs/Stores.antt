@@ -2,11 +2,11 @@
 use Rattle.std.specs.Prelude.{◌≡◌, ℕ, List, [], Option, None, Some, Contains, ◌↔◌, slice_get}
 use Rattle.std.specs.List.{zip}
 use Rattle.unit_outcomes.specs.declared.outcome.Outcome.{Outcome}
-use Rattle.dep_keys.specs.Trees.Tree.{Bare, Gap, With}
+use Rattle.decode_jobs.specs.Trees.Tree.{Bare, Gap, With}
 use Rattle.decode_jobs.specs.Inputs.{InputValue}
 use Rattle.decode_jobs.specs.Keys.{Key}
 use Rattle.picture_keys.specs.Known.{keys_of}
-use Rattle.changed_units.specs.Units.{ComparedUnit, compared_units}
+use Rattle.picture_keys.specs.Units.{ComparedUnit, compared_units}
 use Rattle.picture_store.specs.Pictures.{Pictures, no_pictures}
 
 -- a job that is out: its number, the key of its picture, and what it was given to decode

@@ -1,7 +1,7 @@
 //! What a store answers about jobs.
 
-use changed_units::Changed;
 use decode_jobs::{Decoded, Job};
+use picture_keys::changed_units::Changed;
 
 /// What taking a stretch of units came to: how many pictures are lost, and which units changed.
 #[derive(Clone, Copy, Debug, PartialEq, Eq)]

@@ -1,16 +1,16 @@
 //! The units that a stretch in the place of another one changed.
 
 ghost use Rattle.std.specs.Prelude.{◌≡◌, ◌+◌, ◌≤◌, length};
-ghost use Rattle.changed_units.specs.Stretches.{IsLeast};
-ghost use Rattle.changed_units.specs.Units.{AreDifferent, compared_units};
+ghost use Rattle.picture_keys.specs.Stretches.{IsLeast};
+ghost use Rattle.picture_keys.specs.Units.{AreDifferent, compared_units};
 ghost use Rattle.picture_store.specs.Stretches.{IsStretch, ids_with, outcomes_with, replaced};
 
 use crate::stretch::Stretch;
-use base_types::Shared;
-use changed_units::{Changed, UnitColumns, widen};
-use dep_keys::KeyId;
+use decode_jobs::dep_keys::KeyId;
+use h264_types::base::Shared;
+use h264_types::pictures::AuId;
 use picture_keys::HashedOutcome;
-use pictures::AuId;
+use picture_keys::changed_units::{Changed, UnitColumns, widen};
 
 /// The least stretch of places that has all units that are changed where a stretch stands in the
 /// place of another one: of its own units and of those behind it up to the place past which the

@@ -3,15 +3,15 @@
 
 ghost use Rattle.std.specs.Prelude.{◌≡◌, ◌<◌, ◌↔◌, ℕ, Option, Some, None, length, take, All, Contains, IfSome, IsSome, IsTrue, MatchOption, slice_get, slice_index_or};
 ghost use Rattle.picture_store.specs.Kept.{AreRight};
-ghost use Rattle.key_slots.specs.Places.{place_at};
+ghost use Rattle.held_pictures.specs.Places.{place_at};
 ghost use Rattle.picture_store.specs.Due.{AreHeld, IsDueNumber, IsNotDue, IsReadyNumber};
 ghost use Rattle.picture_store.specs.Looked.{AreNotDue};
 ghost use Rattle.picture_store.specs.Settled.{AreSettled, NeedsNone};
 
 use crate::job_out::{JobOut, is_out};
 use decode_jobs::Decoded;
-use dep_keys::{Fingerprint, KeyId, Keys};
-use key_slots::{Places, is_held};
+use decode_jobs::dep_keys::{Fingerprint, KeyId, Keys};
+use held_pictures::key_slots::{Places, is_held};
 use picture_keys::Works;
 
 /// The first unit, from one on before which all are known to need no job, that needs one.

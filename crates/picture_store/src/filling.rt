@@ -1,15 +1,15 @@
 //! What changes where a result lands.
 
 ghost use Rattle.std.specs.Prelude.{◌≡◌, ℕ, ◌≤◌};
-ghost use Rattle.key_slots.specs.Places.{uses_at};
+ghost use Rattle.held_pictures.specs.Places.{uses_at};
 ghost use Rattle.picture_store.specs.Filling.{IsFilled};
 ghost use Rattle.picture_store.specs.declared.answers.Landing.TheVariants.{Taken};
 
 use crate::answers::Landing;
 use crate::due::is_awaited;
 use decode_jobs::Decoded;
-use dep_keys::KeyId;
-use key_slots::Places;
+use decode_jobs::dep_keys::KeyId;
+use held_pictures::key_slots::Places;
 
 /// Puts the picture of a result into the place of its key, where that waits for one.
 pub(crate) fn fill<P: Decoded>(places: &mut Places<P>, key: KeyId, picture: P) -> Landing

@@ -1,19 +1,19 @@
 //! What a job is given to decode.
 
 ghost use Rattle.std.specs.Prelude.{◌≡◌, Some, All, Contains, IfOk};
-ghost use Rattle.dep_keys.specs.KeyMaps.{tree_at};
+ghost use Rattle.decode_jobs.specs.KeyMaps.{tree_at};
 ghost use Rattle.decode_jobs.specs.Keys.{Key};
 ghost use Rattle.picture_keys.specs.Known.{Known};
 ghost use Rattle.picture_store.specs.Stores.{IsReady};
-ghost use Rattle.key_slots.specs.Places.{numbers_held, pictures_held};
+ghost use Rattle.held_pictures.specs.Places.{numbers_held, pictures_held};
 ghost use Rattle.picture_store.specs.Kept.{keys_for, AreRight};
 ghost use Rattle.picture_store.specs.Inputs.{HasKnown, IsInputOf};
 
 use crate::naming::{frames_of, references_of};
+use decode_jobs::dep_keys::{Fingerprint, KeyId, Keys};
 use decode_jobs::{Decoded, Input};
-use dep_keys::{Fingerprint, KeyId, Keys};
 use h264_controls::Request;
-use key_slots::Places;
+use held_pictures::key_slots::Places;
 use picture_keys::{Works, units_named};
 use std::alloc::{AllocError, Global};
 use unit_outcomes::Outcome;

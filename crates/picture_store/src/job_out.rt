@@ -5,8 +5,8 @@ ghost use Rattle.picture_store.specs.declared.job_out.JobOut.{JobOut as Out};
 ghost use Rattle.picture_store.specs.Kept.{numbers_out};
 ghost use Rattle.picture_store.specs.Looked.{lowered};
 
+use decode_jobs::dep_keys::KeyId;
 use decode_jobs::{Decoded, Input};
-use dep_keys::KeyId;
 
 /// A job that is out: its number, the number of its key, what it was given to decode, and a place
 /// before which no unit has the key.

@@ -31,8 +31,8 @@ mod stretch;
 mod unreferred;
 
 pub use answers::{JobAt, Landing, Returning, StretchTaken};
+pub use held_pictures::picture_cache::MOST_ROOM;
 pub use laws::something_is_due;
-pub use picture_cache::MOST_ROOM;
 pub use refitting::numbers_of;
 pub use refusals::TakeRefused;
 pub use store::PictureStore;

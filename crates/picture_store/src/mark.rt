@@ -4,7 +4,7 @@ ghost use Rattle.std.specs.Prelude.{◌≡◌, ◌==◌, ◌<◌, ℕ, ◌↔◌
 ghost use Rattle.std.specs.List.{filter_map};
 ghost use Rattle.picture_store.specs.Marks.{is_flagged, numbers_marked};
 
-use dep_keys::KeyId;
+use decode_jobs::dep_keys::KeyId;
 use std::alloc::{AllocError, Global};
 use std::marker::Model;
 

@@ -6,11 +6,11 @@ ghost use Rattle.h264_controls.specs.References.{timestamp};
 ghost use Rattle.picture_store.specs.Naming.{AreCovered, IsShown, picture_in};
 ghost use Rattle.picture_store.specs.Referenced.{added, each_once, frames_named, frames_of, names, times_of};
 
+use decode_jobs::dep_keys::KeyId;
 use decode_jobs::{Decoded, Reference};
-use dep_keys::KeyId;
 use h264_controls::Request;
-use key_slots::Places;
-use pictures::AuId;
+use h264_types::pictures::AuId;
+use held_pictures::key_slots::Places;
 use std::alloc::{AllocError, Global};
 
 /// The frames in the decoded picture buffers that requests carry, each once, in their order.

@@ -3,16 +3,16 @@
 ghost use Rattle.std.specs.Prelude.{◌≡◌, ◌+◌, ◌-◌, ◌^◌, ◌<◌, ◌≤◌, ◌++◌, [], true, false, ℕ, List, Option, Contains, IsPermutation, Some, IfOk, OnOk, drop, length, take, vec_len};
 ghost use Rattle.std.specs.Vec.{vec_capacity};
 ghost use Rattle.std.specs.List.Sorted.{IsNonDecreasing};
-ghost use Rattle.key_slots.specs.Accounts.{AreApart, pictures_of};
-ghost use Rattle.key_slots.specs.Counting.{times, times_in};
-ghost use Rattle.key_slots.specs.Places.{AreSame, uses_at};
+ghost use Rattle.held_pictures.specs.Accounts.{AreApart, pictures_of};
+ghost use Rattle.held_pictures.specs.Counting.{times, times_in};
+ghost use Rattle.held_pictures.specs.Places.{AreSame, uses_at};
 ghost use Rattle.picture_store.specs.Recounts.{IsCountable, IsRecounted};
 
 use crate::refitting::add_numbers;
 use decode_jobs::Decoded;
-use dep_keys::KeyId;
-use key_slots::{Places, let_go_all, make_places, take_up_all};
-use picture_cache::PictureCache;
+use decode_jobs::dep_keys::KeyId;
+use held_pictures::key_slots::{Places, let_go_all, make_places, take_up_all};
+use held_pictures::picture_cache::PictureCache;
 use std::alloc::{AllocError, Global};
 
 /// The keys of units, in rising order of their numbers.

@@ -3,12 +3,12 @@
 ghost use Rattle.std.specs.Prelude.{◌≡◌, ◌↔◌, ℕ, ◌+◌, ◌*◌, ◌<◌, ◌≤◌, List, [], ◌++◌, ◌⊎◌, All, drop, length, take, vec_len, IfOk, OnOk, IsTrue, Contains, Some};
 ghost use Rattle.std.specs.Vec.{vec_capacity};
 ghost use Rattle.std.specs.List.{zip};
-ghost use Rattle.dep_keys.specs.KeyMaps.{Extends, IsKeyMap};
+ghost use Rattle.decode_jobs.specs.KeyMaps.{Extends, IsKeyMap};
 ghost use Rattle.unit_outcomes.specs.declared.outcome.Outcome.{Outcome as Becomes};
 ghost use Rattle.picture_keys.specs.Known.{Known, keys_after, keys_of, known_after};
 ghost use Rattle.picture_keys.specs.Numbered.{AllStandFor, number_at, numbers_over};
 ghost use Rattle.picture_keys.specs.Following.{AreNumberedSome, Follow};
-ghost use Rattle.key_slots.specs.Counting.{times, times_in};
+ghost use Rattle.held_pictures.specs.Counting.{times, times_in};
 ghost use Rattle.picture_store.specs.Kept.{AreSwept, numbers_out, IsStored, KeepsMarked, KeepsStored};
 ghost use Rattle.picture_store.specs.Marks.{numbers_marked};
 ghost use Rattle.picture_store.specs.Needs.{AgreeAt, TellNeeds, between};
@@ -17,13 +17,13 @@ ghost use Rattle.picture_store.specs.Stretches.{IsStretch, ids_with, outcomes_wi
 use crate::job_out::JobOut;
 use crate::mark::{Mark, add_marked};
 use crate::stretch::Stretch;
-use base_types::{Shared, replace_range};
 use checkpoints::Checkpoints;
 use decode_jobs::Decoded;
-use dep_keys::{Fingerprint, KeyId, Keys};
-use picture_cache::PictureCache;
+use decode_jobs::dep_keys::{Fingerprint, KeyId, Keys};
+use h264_types::base::{Shared, replace_range};
+use h264_types::pictures::{AuId, Frame};
+use held_pictures::picture_cache::PictureCache;
 use picture_keys::{HashedOutcome, KeyNumbers, UnitKeys, Works};
-use pictures::{AuId, Frame};
 use request_core::State;
 use std::alloc::{AllocError, Global};
 

@@ -2,9 +2,9 @@
 
 ghost use Rattle.std.specs.Prelude.{◌≡◌, ℕ, ◌≤◌, ◌<◌, ◌↔◌, true, false, [], length, Contains, IsPermutation, None, Some, IsTrue, IfOk, OnOk, OnErr, slice_get};
 ghost use Rattle.std.specs.List.{zip};
-ghost use Rattle.picture_cache.specs.Bounded.{most_room};
-ghost use Rattle.changed_units.specs.Stretches.{IsLeast};
-ghost use Rattle.changed_units.specs.Units.{AreDifferent};
+ghost use Rattle.held_pictures.specs.Bounded.{most_room};
+ghost use Rattle.picture_keys.specs.Stretches.{IsLeast};
+ghost use Rattle.picture_keys.specs.Units.{AreDifferent};
 ghost use Rattle.picture_keys.specs.Decodable.{AllCanDecode};
 ghost use Rattle.picture_store.specs.Pictures.{all_of};
 ghost use Rattle.picture_store.specs.Stores.{compared_in, empty, AreNumbered, AreOneToOne, IsNumberInUse};
@@ -34,14 +34,14 @@ use crate::refitting::{keys_from, make_room, put_stretch, sweep_at};
 use crate::refusals::TakeRefused;
 use crate::schedule::{Schedule, earliest_due, schedule_for};
 use crate::stretch::Stretch;
-use base_types::{Shared, replace_range};
 use checkpoints::Checkpoints;
+use decode_jobs::dep_keys::{KeyId, Keys, Sha256Fingerprint};
 use decode_jobs::{Decoded, Job};
-use dep_keys::{KeyId, Keys, Sha256Fingerprint};
-use key_slots::{Places, Units};
-use picture_cache::PictureCache;
+use h264_types::base::{Shared, replace_range};
+use h264_types::pictures::AuId;
+use held_pictures::key_slots::{Places, Units};
+use held_pictures::picture_cache::PictureCache;
 use picture_keys::{HashedOutcome, Works};
-use pictures::AuId;
 use request_core::State;
 use std::alloc::{AllocError, Global};
 use std::marker::Model;
@@ -100,7 +100,7 @@ impl<P: Decoded> Drop for PictureStore<P> {
 impl<P: Decoded> Model for PictureStore<P> {
     ghost use Rattle.std.specs.Coded.{codes};
     ghost use Rattle.std.specs.Map.{keys_of as numbers_of, values_of};
-    ghost use Rattle.dep_keys.specs.Trees.{tree_code};
+    ghost use Rattle.decode_jobs.specs.Trees.{tree_code};
     ghost use Rattle.picture_keys.specs.contracts.works.Works as works;
     ghost use Rattle.picture_store.specs.Stores.{StoreValue};
 
@@ -108,7 +108,7 @@ impl<P: Decoded> Model for PictureStore<P> {
 
     ghost coded = { Prim.hlevel (codes, tree_code works.the_row.coded, P.code) };
 
-    ghost use Rattle.key_slots.specs.Places.{numbers_held, pictures_held};
+    ghost use Rattle.held_pictures.specs.Places.{numbers_held, pictures_held};
     ghost use Rattle.picture_store.specs.Kept.{keys_for, jobs_for};
     ghost use Rattle.picture_store.specs.Marks.{marked_for};
     ghost use Rattle.picture_store.specs.Settled.{IsStored};

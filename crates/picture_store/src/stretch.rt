@@ -1,8 +1,8 @@
 //! A stretch of units in the place of another.
 
-use base_types::Shared;
+use h264_types::base::Shared;
+use h264_types::pictures::AuId;
 use picture_keys::HashedOutcome;
-use pictures::AuId;
 
 /// Units that stand in the place of those from one place of a stream on and below another: their
 /// ids, and what becomes of each.

@@ -6,7 +6,7 @@ use Rattle.request_core.specs.States.{FoldState, no_units}
 use Rattle.request_core.specs.Fold.{fold_step, outcomes_of}
 use Rattle.request_core.specs.Agreement.{state_from}
 use Rattle.request_core.proofs.Agreement.{outcomes_from-append, state_from-append}
-use Rattle.unit_lines.specs.UnitLines.{outcome_tail}
+use Rattle.unit_printing.specs.UnitLines.{outcome_tail}
 use Rattle.plan_stream.specs.declared.plan_fold.PlanFold.{PlanFold}
 use Rattle.plan_stream.specs.Shown.{shown_of}
 use Rattle.plan_stream.specs.Folds.{IsFoldOf, tails_from}

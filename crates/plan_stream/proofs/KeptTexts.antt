@@ -8,7 +8,7 @@ use Rattle.console_io.specs.Chunks.{Adds, AppendsFront, waiting_of}
 use Rattle.console_io.proofs.Chunked.{adds-after, adds-more, front-wider}
 use Rattle.request_core.specs.Fold.{outcomes_of}
 use Rattle.output_order.specs.OutputOrder.{positions_of}
-use Rattle.unit_lines.specs.UnitLines.{outcome_head}
+use Rattle.unit_printing.specs.UnitLines.{outcome_head}
 use Rattle.plan_stream.specs.declared.plan_fold.PlanFold.{PlanFold}
 use Rattle.plan_stream.specs.Shown.{shown_of}
 use Rattle.plan_stream.specs.Folds.{IsFoldOf, kept_text, tails_from}

@@ -7,7 +7,7 @@ use Rattle.access_unit.specs.declared.room.Refusal.{Refusal}
 use Rattle.console_io.specs.Chunks.{AppendsFront}
 use Rattle.console_io.specs.declared.chunks.PrintFault.{PrintFault}
 use Rattle.console_io.specs.declared.chunks.PrintFault.TheVariants as print
-use Rattle.unit_lines.specs.Refusals.{refusal_text}
+use Rattle.unit_printing.specs.Refusals.{refusal_text}
 use Rattle.plan_stream.specs.Faults.{fault_of_print}
 use Rattle.plan_stream.specs.Gathering.{IsFoldOfStream}
 use Rattle.plan_stream.specs.Plans.{EndsBy, IsPlanned, IsRefused}

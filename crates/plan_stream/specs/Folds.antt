@@ -4,7 +4,7 @@ use Rattle.unit_outcomes.specs.declared.outcome.Outcome.{Outcome}
 use Rattle.request_core.specs.States.{no_units}
 use Rattle.request_core.specs.Fold.{outcomes_of}
 use Rattle.request_core.specs.Agreement.{state_from}
-use Rattle.unit_lines.specs.UnitLines.{outcome_head, outcome_tail}
+use Rattle.unit_printing.specs.UnitLines.{outcome_head, outcome_tail}
 use Rattle.plan_stream.specs.declared.plan_fold.PlanFold.{PlanFold}
 use Rattle.plan_stream.specs.Shown.{shown_of}
 use Rattle.plan_stream.specs.Streams.{numbered_from}

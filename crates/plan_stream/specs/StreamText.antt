@@ -3,7 +3,7 @@ use Rattle.std.specs.Prelude.{ℕ, ◌++◌, List, [], ◌∷◌, Option}
 use Rattle.unit_outcomes.specs.declared.outcome.Outcome.{Outcome}
 use Rattle.output_order.specs.OutputOrder.{positions_of}
 use Rattle.request_core.specs.Fold.{outcomes_of}
-use Rattle.unit_lines.specs.UnitLines.{outcome_lines}
+use Rattle.unit_printing.specs.UnitLines.{outcome_lines}
 
 -- the lines of units, by the outcome of each and its position
 abbrev pub units_text : List (ℕ × List (List ℕ)) → List Outcome → List (Option ℕ) → List ℕ

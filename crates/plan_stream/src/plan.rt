@@ -9,7 +9,7 @@ ghost use Rattle.plan_stream.specs.Folds.{IsFoldOf};
 ghost use Rattle.plan_stream.specs.Gathering.{IsGathered};
 ghost use Rattle.plan_stream.specs.Plans.{EndsBy, WritesPlan};
 ghost use Rattle.plan_stream.specs.declared.fault.PlanFault.{PlanFault};
-ghost use Rattle.unit_lines.specs.Refusals.{refusal_text};
+ghost use Rattle.unit_printing.specs.Refusals.{refusal_text};
 
 use crate::fault::{PlanFault, say_plan_fault};
 use crate::gathering::{StreamGathering, gather};
@@ -19,7 +19,7 @@ use access_unit::Refusal;
 use console_io::{Ended, PrintFault, Sink, Status, write_bytes};
 use std::alloc::Global;
 use std::io::Read;
-use unit_lines::RefusalLine;
+use unit_printing::lines::RefusalLine;
 
 /// Prints the plan of the stream that the reader gives, or its refusal. Where the reader fails or
 /// memory runs out, `errors` is told; the reader has this name there.

@@ -7,11 +7,11 @@ use crate::shown::shown_in;
 use crate::tails::Tails;
 use crate::unit_fold::UnitFold;
 use access_unit::Unit;
-use pictures::AuId;
+use h264_types::pictures::AuId;
 use request_core::{State, UnitRead};
 use std::alloc::{AllocError, Global};
-use unit_lines::write_tail;
 use unit_outcomes::Outcome;
+use unit_printing::lines::write_tail;
 
 /// The fold over the units so far, with what their lines need.
 #[derive(Drop)]

@@ -7,15 +7,15 @@ ghost use Rattle.console_io.specs.Chunks.{Adds, AppendsFront, waiting_of};
 ghost use Rattle.plan_stream.specs.Folds.{IsFoldOf, kept_text};
 ghost use Rattle.plan_stream.specs.Streams.{numbered_from};
 ghost use Rattle.plan_stream.specs.StreamText.{stream_text};
-ghost use Rattle.unit_lines.specs.UnitLines.{unit_head};
+ghost use Rattle.unit_printing.specs.UnitLines.{unit_head};
 
 use crate::plan_fold::PlanFold;
 use crate::tails::Tails;
 use console_io::{Chunks, PrintFault, Sink};
-use pictures::AuId;
+use h264_types::pictures::AuId;
 use std::alloc::Global;
-use unit_lines::UnitHead;
 use unit_outcomes::Outcome;
+use unit_printing::lines::UnitHead;
 
 /// Prints the lines of all units that were folded.
 pub(crate) fn print_all<W: Sink>(

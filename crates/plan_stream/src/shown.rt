@@ -4,7 +4,7 @@ ghost use Rattle.std.specs.Prelude.{◌≡◌, []};
 ghost use Rattle.plan_stream.specs.Shown.{shown_of};
 ghost use Rattle.request_core.specs.Findings.{outcome_in};
 
-use pictures::Counts;
+use h264_types::pictures::Counts;
 use request_core::Finding;
 use std::alloc::Global;
 use unit_outcomes::{Outcome, Plan, Requests};

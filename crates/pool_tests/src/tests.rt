@@ -16,8 +16,8 @@ mod wanted;
 
 use bytes::Bytes;
 use decode_pool::{Desk, Seat, finish};
-use edit_engine::{Config, Edit, Place, Session, Shown};
-use pictures::AuId;
+use h264_types::pictures::AuId;
+use stand_in_session::{Config, Edit, Place, Session, Shown};
 use std::process::Abort;
 use std::sync::Wait;
 use std::sync::atomic::{AtomicBool, Ordering};

@@ -1,11 +1,11 @@
 -- What a picture leads to where nothing stands in its way.
 use Rattle.std.proofs.Common.{◌≡◌, ℕ, List, map, Ok, ap, ◌∙◌}
 use Rattle.std.specs.Prelude.{Result}
-use Rattle.base_types.specs.Chains.{◌>>=◌}
-use Rattle.pictures.specs.declared.counts.Counts.{Counts}
-use Rattle.order_count.specs.Counting.{counts_of}
-use Rattle.pictures.specs.MarkedFrames.{Marked}
-use Rattle.ref_marking.specs.MarksAfter.{marks_after}
+use Rattle.h264_types.specs.Chains.{◌>>=◌}
+use Rattle.h264_types.specs.declared.pictures.counts.Counts.{Counts}
+use Rattle.slice_decoding.specs.Counting.{counts_of}
+use Rattle.h264_types.specs.MarkedFrames.{Marked}
+use Rattle.slice_decoding.specs.MarksAfter.{marks_after}
 use Rattle.unit_outcomes.specs.declared.validity_fault.ValidityFault.{ValidityFault}
 use Rattle.unit_outcomes.specs.declared.outcome.Outcome.TheVariants.{Plan}
 use Rattle.slice_reading.specs.declared.stop.Stop.{Stop}

@@ -2,15 +2,15 @@
 -- 7.4.1.2.1 and 7.4.3).
 use Rattle.std.specs.Prelude.{ℕ, ◌+◌, ◌%◌, ◌==◌, Bool, true, false, not, ◌&&◌, ◌||◌, List, [], ◌∷◌, Option, None, Some}
 use Rattle.std.specs.List.{list_any}
-use Rattle.param_set_types.specs.declared.sps.Sps.{Sps}
-use Rattle.slice_header_types.specs.declared.slice_headers.SliceHeader.{SliceHeader}
-use Rattle.slice_header_types.specs.Pictures.{is_idr, is_reference}
-use Rattle.param_set_types.specs.FrameNumbers.{max_frame_num}
-use Rattle.pictures.specs.declared.frames.Frame.{Frame}
-use Rattle.pictures.specs.declared.frames.Term.{Term}
-use Rattle.pictures.specs.declared.frames.Term.TheVariants.{ShortTerm}
+use Rattle.h264_types.specs.declared.param_sets.sps.Sps.{Sps}
+use Rattle.h264_types.specs.declared.slice_headers.slice_headers.SliceHeader.{SliceHeader}
+use Rattle.h264_types.specs.Pictures.{is_idr, is_reference}
+use Rattle.h264_types.specs.FrameNumbers.{max_frame_num}
+use Rattle.h264_types.specs.declared.pictures.frames.Frame.{Frame}
+use Rattle.h264_types.specs.declared.pictures.frames.Term.{Term}
+use Rattle.h264_types.specs.declared.pictures.frames.Term.TheVariants.{ShortTerm}
 use Rattle.unit_outcomes.specs.declared.validity_fault.ValidityFault.TheVariants.{NoIdr, SpsChange, IdrFrameNum, FrameNumGap, FrameNumRepeat}
-use Rattle.param_set_types.specs.SameSets.{same_sps}
+use Rattle.h264_types.specs.SameSets.{same_sps}
 use Rattle.slice_reading.specs.Faults.{Row}
 use Rattle.request_core.specs.States.{FoldState}
 

@@ -1,22 +1,22 @@
 -- The fold over a stream (ITU-T H.264, 8.2): one step of it, and all.
 use Rattle.std.specs.Prelude.{ℕ, ◌||◌, List, [], ◌∷◌, map, filter, Option, None, Some, Result, Ok, Err, if◌then◌else◌, ⊤}
 use Rattle.annexb.specs.NalUnit.{is_slice}
-use Rattle.base_types.specs.Chains.{◌>>=◌}
+use Rattle.h264_types.specs.Chains.{◌>>=◌}
 use Rattle.access_unit.specs.Sets.{sets_of}
-use Rattle.pictures.specs.declared.counts.Counts.{Counts}
-use Rattle.order_count.specs.declared.fault.OrderRange as counting
-use Rattle.order_count.specs.Anchors.{anchor_after_of}
-use Rattle.order_count.specs.Counting.{counts_of}
-use Rattle.slice_header_types.specs.Pictures.{is_idr, is_reference}
-use Rattle.pictures.specs.PicOrderCnt.{pic_order_cnt}
-use Rattle.pictures.specs.Resetting.{has_operation_five, counts_after_reset}
-use Rattle.ref_marking.specs.declared.fault.MarkFault.{MarkFault}
-use Rattle.ref_marking.specs.declared.fault.MarkFault.TheVariants as marking
-use Rattle.pictures.specs.MarkedFrames.{Marked}
-use Rattle.ref_marking.specs.MarksAfter.{marks_after}
-use Rattle.ref_lists.specs.declared.fault.ListFault.{ListFault}
-use Rattle.ref_lists.specs.declared.fault.ListFault.TheVariants as listing
-use Rattle.ref_lists.specs.ReferenceLists.{lists_of}
+use Rattle.h264_types.specs.declared.pictures.counts.Counts.{Counts}
+use Rattle.slice_decoding.specs.declared.order_count.fault.OrderRange as counting
+use Rattle.slice_decoding.specs.Anchors.{anchor_after_of}
+use Rattle.slice_decoding.specs.Counting.{counts_of}
+use Rattle.h264_types.specs.Pictures.{is_idr, is_reference}
+use Rattle.h264_types.specs.PicOrderCnt.{pic_order_cnt}
+use Rattle.h264_types.specs.Resetting.{has_operation_five, counts_after_reset}
+use Rattle.slice_decoding.specs.declared.ref_marking.fault.MarkFault.{MarkFault}
+use Rattle.slice_decoding.specs.declared.ref_marking.fault.MarkFault.TheVariants as marking
+use Rattle.h264_types.specs.MarkedFrames.{Marked}
+use Rattle.slice_decoding.specs.MarksAfter.{marks_after}
+use Rattle.slice_decoding.specs.declared.ref_lists.fault.ListFault.{ListFault}
+use Rattle.slice_decoding.specs.declared.ref_lists.fault.ListFault.TheVariants as listing
+use Rattle.slice_decoding.specs.ReferenceLists.{lists_of}
 use Rattle.unit_outcomes.specs.declared.validity_fault.ValidityFault.{ValidityFault}
 use Rattle.unit_outcomes.specs.declared.validity_fault.ValidityFault.TheVariants.{OrderRange, OrderTie, NoReference, BadModification, BadMarking, TooManyReferences}
 use Rattle.unit_outcomes.specs.declared.outcome.Plan.{Plan}

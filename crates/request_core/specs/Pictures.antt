@@ -1,8 +1,8 @@
 -- A picture before requests are made, and its plan as a function of it.
 use Rattle.std.specs.Prelude.{ℕ, ℤ, Bool, List}
 use Rattle.unit_outcomes.specs.declared.outcome.Plan.{Plan}
-use Rattle.pictures.specs.declared.counts.Counts.{Counts}
-use Rattle.pictures.specs.declared.frames.Frame.{Frame}
+use Rattle.h264_types.specs.declared.pictures.counts.Counts.{Counts}
+use Rattle.h264_types.specs.declared.pictures.frames.Frame.{Frame}
 use Rattle.request_core.specs.Requests.{ListedSlice, requests_of}
 
 -- a picture of the unit of an id: the frames that were marked before it, its counts, its place in

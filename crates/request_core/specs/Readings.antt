@@ -1,7 +1,7 @@
 -- A unit as it is read over a state.
 use Rattle.std.specs.Prelude.{ℕ, List, filter, map, Result}
 use Rattle.annexb.specs.NalUnit.{is_slice}
-use Rattle.base_types.specs.Chains.{◌>>=◌}
+use Rattle.h264_types.specs.Chains.{◌>>=◌}
 use Rattle.unit_outcomes.specs.declared.outcome.Outcome.{Outcome}
 use Rattle.unit_outcomes.specs.declared.validity_fault.ValidityFault.{ValidityFault}
 use Rattle.slice_reading.specs.Numbers.{gathered}

@@ -2,15 +2,15 @@
 
 ghost use Rattle.std.specs.Prelude.{◌≡◌, ◌==◌, ◌∷◌, ◌&&◌, Bool, not, IsTrue, ◌↔◌, map};
 ghost use Rattle.std.specs.List.{list_any};
-ghost use Rattle.param_set_types.specs.FrameNumbers.{max_frame_num};
-ghost use Rattle.param_set_types.specs.SameSets.{same_sps};
+ghost use Rattle.h264_types.specs.FrameNumbers.{max_frame_num};
+ghost use Rattle.h264_types.specs.SameSets.{same_sps};
 ghost use Rattle.slice_reading.specs.Faults.{first_shown};
 ghost use Rattle.request_core.specs.Faults.{is_active, is_none, is_short_term, follows, repeats, picture_rows};
 
 use crate::state::State;
-use param_set_types::Sps;
-use pictures::{Frame, Term};
-use slice_header_types::SliceHeader;
+use h264_types::param_sets::Sps;
+use h264_types::pictures::{Frame, Term};
+use h264_types::slice_headers::SliceHeader;
 use unit_outcomes::ValidityFault;
 
 /// The first fault that the picture shows after those before it.

@@ -5,7 +5,7 @@ ghost use Rattle.request_core.specs.Pictures.{plan_in};
 ghost use Rattle.request_core.specs.Findings.{outcome_in};
 
 use crate::requesting::requests_of;
-use pictures::{AuId, Counts, Frame, List, Marks};
+use h264_types::pictures::{AuId, Counts, Frame, List, Marks};
 use slice_reading::Slice;
 use std::alloc::{AllocError, Global};
 use std::marker::Model;

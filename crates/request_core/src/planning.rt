@@ -2,21 +2,21 @@
 //! after it.
 
 ghost use Rattle.std.specs.Prelude.{◌≡◌, ◌∷◌, ◌++◌, map, Ok, Err, IfOk, IsTrue};
-ghost use Rattle.order_count.specs.Counting.{counts_of};
-ghost use Rattle.pictures.specs.PicOrderCnt.{are_in_range};
-ghost use Rattle.pictures.specs.Resetting.{counts_after_reset};
-ghost use Rattle.ref_marking.specs.MarksAfter.{marks_after};
+ghost use Rattle.slice_decoding.specs.Counting.{counts_of};
+ghost use Rattle.h264_types.specs.PicOrderCnt.{are_in_range};
+ghost use Rattle.h264_types.specs.Resetting.{counts_after_reset};
+ghost use Rattle.slice_decoding.specs.MarksAfter.{marks_after};
 ghost use Rattle.slice_reading.specs.Numbers.{gathered};
 ghost use Rattle.request_core.specs.Fold.{counted, list_fault, listed, marked};
 ghost use Rattle.slice_reading.specs.Answers.{Answers, AnswersAs};
 
 use crate::picture::Listed;
 use crate::state::State;
-use base_types::Shared;
-use order_count::count;
-use pictures::{AuId, Counts, Marks};
-use ref_lists::{ListFault, lists};
-use ref_marking::{MarkFault, mark_in_place};
+use h264_types::base::Shared;
+use h264_types::pictures::{AuId, Counts, Marks};
+use slice_decoding::order_count::count;
+use slice_decoding::ref_lists::{ListFault, lists};
+use slice_decoding::ref_marking::{MarkFault, mark_in_place};
 use slice_reading::{Gathered, Slice, Stop};
 use std::alloc::Global;
 use unit_outcomes::ValidityFault;
@@ -37,7 +37,7 @@ pub(crate) fn count_picture(state: &State, slice: &Slice) -> Result<Counts, Stop
 }
 
 /// The frames that are marked after the picture; one that is no reference shares those before it.
-#[tactic(auto, unfolding(ref_marking::specs::MarksAfter::marks_after))]
+#[tactic(auto, unfolding(slice_decoding::specs::MarksAfter::marks_after))]
 pub(crate) fn mark_picture(
     alloc: Global,
     state: &State,

@@ -13,7 +13,7 @@ use crate::picture::Finding;
 use crate::state::State;
 use crate::stepping::{pass, plan_picture};
 use access_unit::Unit;
-use pictures::AuId;
+use h264_types::pictures::AuId;
 use slice_reading::{Slice, Stop, read_slices, tables_with};
 use std::alloc::{AllocError, Global};
 use std::marker::Model;

@@ -5,14 +5,14 @@ ghost use Rattle.h264_controls.specs.PredWeightsControl.{pred_weights_control};
 ghost use Rattle.request_core.specs.Requests.{controls_of, request_of, requests_of};
 
 use crate::picture::Listed;
-use base_types::Shared;
 use h264_controls::{
     Controls, References, Request, V4l2CtrlH264DecodeParams, V4l2CtrlH264PredWeights,
     V4l2CtrlH264SliceParams, Work,
 };
-use param_set_types::Sps;
-use pictures::{AuId, Counts, Marks};
-use slice_header_types::SliceHeader;
+use h264_types::base::Shared;
+use h264_types::param_sets::Sps;
+use h264_types::pictures::{AuId, Counts, Marks};
+use h264_types::slice_headers::SliceHeader;
 use std::alloc::{AllocError, Global};
 use unit_outcomes::Requests;
 

@@ -7,7 +7,7 @@ use crate::state::State;
 use crate::stepping::step;
 use crate::steps::Steps;
 use access_unit::Unit;
-use pictures::AuId;
+use h264_types::pictures::AuId;
 use std::alloc::{AllocError, Global};
 use unit_outcomes::Outcome;
 

@@ -3,10 +3,10 @@
 ghost use Rattle.std.specs.Prelude.{◌≡◌, ◌↔◌, IfOk, IsTrue};
 ghost use Rattle.request_core.specs.States.{no_units};
 
-use base_types::Shared;
-use order_count::Anchor;
-use param_set_types::Sps;
-use pictures::{Frame, Marks};
+use h264_types::base::Shared;
+use h264_types::param_sets::Sps;
+use h264_types::pictures::{Frame, Marks};
+use slice_decoding::order_count::Anchor;
 use slice_reading::Tables;
 use std::alloc::{AllocError, Global};
 use std::marker::Model;

@@ -1,10 +1,10 @@
 //! One step of the fold over a stream.
 
 ghost use Rattle.std.specs.Prelude.{◌≡◌, ◌<◌, ◌∷◌, ◌++◌, ◌+◌, ◌^◌, Ok, Some, IsTrue, IfOk, OnOk, OnErr, if◌then◌else◌};
-ghost use Rattle.order_count.specs.Counting.{counts_of};
-ghost use Rattle.slice_header_types.specs.Pictures.{is_idr};
-ghost use Rattle.pictures.specs.PicOrderCnt.{are_in_range};
-ghost use Rattle.pictures.specs.Resetting.{counts_after_reset};
+ghost use Rattle.slice_decoding.specs.Counting.{counts_of};
+ghost use Rattle.h264_types.specs.Pictures.{is_idr};
+ghost use Rattle.h264_types.specs.PicOrderCnt.{are_in_range};
+ghost use Rattle.h264_types.specs.Resetting.{counts_after_reset};
 ghost use Rattle.slice_reading.specs.Faults.{first_shown};
 ghost use Rattle.request_core.specs.Faults.{picture_rows};
 ghost use Rattle.request_core.specs.Findings.{step_in};
@@ -19,10 +19,10 @@ use crate::reading::UnitRead;
 use crate::state::State;
 use crate::steps::Steps;
 use access_unit::Unit;
-use base_types::Shared;
-use order_count::anchor_after;
-use param_set_types::Sps;
-use pictures::{AuId, Counts, Marks, after_reset, resets};
+use h264_types::base::Shared;
+use h264_types::param_sets::Sps;
+use h264_types::pictures::{AuId, Counts, Marks, after_reset, resets};
+use slice_decoding::order_count::anchor_after;
 use slice_reading::{Slice, Stop, slice_fault};
 use std::alloc::{AllocError, Global};
 use unit_outcomes::{Outcome, ValidityFault};

@@ -2,3 +2,8 @@ pub mod Sequenced
 pub mod Ran
 pub mod Told
 pub mod Waits
+pub mod Judged
+pub mod Appended
+pub mod Numbered
+pub mod SharedRan
+pub mod SharedTold

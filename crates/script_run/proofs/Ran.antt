@@ -1,11 +1,11 @@
 -- Answers to commands, by the files that a source gives.
 use Rattle.std.proofs.Common.{◌≡◌, ℕ, Bool, List}
-use Rattle.edit_engine.specs.Machines.{Machine}
+use Rattle.stand_in_session.specs.Machines.{Machine}
 use Rattle.edit_script.specs.declared.session_commands.SessionCommand.{SessionCommand}
 use Rattle.edit_script.specs.declared.session_commands.SessionCommand.TheVariants as command
 use Rattle.console_io.specs.Inputs.{Files}
 use Rattle.script_run.specs.Running.{Answers}
-use Rattle.unit_json.specs.declared.json_line.JsonLine.{JsonLine}
+use Rattle.unit_printing.specs.declared.json.json_line.JsonLine.{JsonLine}
 
 module _ (says : JsonLine → List ℕ → Type 0) (files : Files) (hex : Bool) where
   -- an answer by others that agree by name is one by these

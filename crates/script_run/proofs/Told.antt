@@ -8,7 +8,7 @@ use Rattle.console_io.specs.declared.input.InputFault.{InputFault}
 use Rattle.console_io.specs.declared.input.InputFault.TheVariants as input
 use Rattle.script_run.specs.RunFaults.{fault_of_input}
 use Rattle.script_run.specs.Stops.{StopsBy}
-use Rattle.unit_json.specs.declared.json_line.JsonLine.{JsonLine}
+use Rattle.unit_printing.specs.declared.json.json_line.JsonLine.{JsonLine}
 
 -- it can't be read, or there is no memory for it
 pub stops-unread : (says : JsonLine → List ℕ → Type 0) (files : Files) (name : Bor (List ℕ)) (text : List ℕ) (room : ℕ) (hex : Bool) (fault : InputFault) (R : Type 0)

@@ -6,27 +6,27 @@ use Rattle.std.proofs.lemmas.List.Elements.{All-contains, Contains-push_cases}
 use Rattle.stand_in_device.specs.Jobs.{JobValue}
 use Rattle.decode_jobs.specs.Keys.{Key}
 use Rattle.picture_keys.specs.Known.{keys_of}
-use Rattle.key_slots.specs.Needed.{IsNeeded}
-use Rattle.key_slots.proofs.Closing.{needed_more}
-use Rattle.key_slots.proofs.Members.{among_map, among_source, first_or_among, there, here}
+use Rattle.held_pictures.specs.Needed.{IsNeeded}
+use Rattle.held_pictures.proofs.Closing.{needed_more}
+use Rattle.held_pictures.proofs.Members.{among_map, among_source, first_or_among, there, here}
 use Rattle.picture_store.proofs.Waiting.{never_stuck}
 use Rattle.picture_store.specs.declared.answers.Landing.{Landing}
 use Rattle.picture_store.specs.declared.answers.Landing.TheVariants as landing
 use Rattle.picture_store.specs.declared.refusals.TakeRefused.{TakeRefused}
 use Rattle.picture_store.specs.Pending.{IsNeededBy, IsPending}
 use Rattle.picture_store.specs.Showing.{HasKey}
-use Rattle.edit_engine.specs.Machines.{OutValue, StoreValue, Machine}
+use Rattle.stand_in_session.specs.Machines.{OutValue, StoreValue, Machine}
 use Rattle.picture_store.specs.Stores.{units_of}
 use Rattle.stream_edits.specs.Edits.{Register}
 use Rattle.stream_edits.specs.Streams.{ids_of, place_of}
 use Rattle.request_core.specs.Fold.{outcomes_of}
-use Rattle.edit_engine.specs.declared.refusals.NotOut.{NotOut}
-use Rattle.edit_engine.specs.declared.replies.TakenJob.{TakenJob}
-use Rattle.edit_engine.specs.declared.commands.Command.TheVariants as told
+use Rattle.stand_in_session.specs.declared.refusals.NotOut.{NotOut}
+use Rattle.stand_in_session.specs.declared.replies.TakenJob.{TakenJob}
+use Rattle.stand_in_session.specs.declared.commands.Command.TheVariants as told
 use Rattle.stream_session.specs.Machines.{store_of}
-use Rattle.edit_engine.specs.Needing.{TakesFor, TellsTakeFor}
+use Rattle.stand_in_session.specs.Needing.{TakesFor, TellsTakeFor}
 use Rattle.stream_session.specs.Needing.{IsAnyOutFor, IsPendingIn}
-use Rattle.edit_engine.specs.Runs.{LandsJob, TakesJob, TakesJobFor}
+use Rattle.stand_in_session.specs.Runs.{LandsJob, TakesJob, TakesJobFor}
 use Rattle.stream_session.specs.Taken.{as_taken, taken_of}
 use Rattle.stream_session.proofs.ByNumber.{none_taken}
 use Rattle.script_run.specs.Settling.{Lands, Settles, Takes}

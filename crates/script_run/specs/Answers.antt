@@ -3,12 +3,12 @@ use Rattle.std.specs.Prelude.{ℕ, ◌++◌, Bool, List, codes, decimal, Option,
 use Rattle.stream_edits.specs.declared.receipts.Receipt.{Receipt}
 use Rattle.stream_edits.specs.declared.refusals.EditRefused.{EditRefused}
 use Rattle.stream_session.specs.declared.refusals.NoSuchUnit.{NoSuchUnit}
-use Rattle.edit_engine.specs.declared.replies.Reply.{Reply}
-use Rattle.edit_engine.specs.declared.replies.Reply.TheVariants as replies
-use Rattle.edit_engine.specs.declared.replies.UnitReport.{UnitReport}
+use Rattle.stand_in_session.specs.declared.replies.Reply.{Reply}
+use Rattle.stand_in_session.specs.declared.replies.Reply.TheVariants as replies
+use Rattle.stand_in_session.specs.declared.replies.UnitReport.{UnitReport}
 use Rattle.stream_edits.specs.Names.{name_of}
 use Rattle.stream_edits.specs.Numbers.{number_of}
-use Rattle.unit_lines.specs.UnitLines.{outcome_lines}
+use Rattle.unit_printing.specs.UnitLines.{outcome_lines}
 use Rattle.edit_script.specs.Words.{id_of}
 use Rattle.script_run.specs.GroupLines.{group_answer_line}
 use Rattle.script_run.specs.JobLines.{taken_line, landed_line, given_line, dropped_line, cleared_line}

@@ -10,3 +10,8 @@ pub mod Sequences
 pub mod Running
 pub mod Stops
 pub mod Messages
+pub mod SharedRunning
+pub mod SharedStops
+pub mod Verdicts
+pub mod Audits
+pub mod WantedLines

@@ -1,6 +1,6 @@
 -- The mark of a script's stream, and what is told of a unit since (docs/OUTPUT.md).
 use Rattle.std.specs.Prelude.{◌≡◌, ℕ, ◌++◌, Bool, true, false, List, codes, decimal, Option, Some, None}
-use Rattle.edit_engine.specs.Machines.{Machine}
+use Rattle.stand_in_session.specs.Machines.{Machine}
 use Rattle.stream_session.specs.Altered.{AnswersAltered, with_mark}
 use Rattle.edit_script.specs.Words.{id_of}
 

@@ -4,17 +4,17 @@ use Rattle.annexb.specs.ByteStream.{joined}
 use Rattle.stream_edits.specs.declared.edits.Edit.TheVariants.{Insert}
 use Rattle.stream_edits.specs.declared.receipts.Receipt.{Receipt}
 use Rattle.stream_edits.specs.declared.refusals.EditRefused.{EditRefused}
-use Rattle.edit_engine.specs.declared.commands.Command.{Command as Told}
-use Rattle.edit_engine.specs.declared.commands.Command.TheVariants as told
-use Rattle.edit_engine.specs.declared.replies.Reply.{Reply}
-use Rattle.edit_engine.specs.declared.replies.Reply.TheVariants as replies
+use Rattle.stand_in_session.specs.declared.commands.Command.{Command as Told}
+use Rattle.stand_in_session.specs.declared.commands.Command.TheVariants as told
+use Rattle.stand_in_session.specs.declared.replies.Reply.{Reply}
+use Rattle.stand_in_session.specs.declared.replies.Reply.TheVariants as replies
 use Rattle.stream_session.specs.declared.refusals.NoSuchUnit.{NoSuchUnit}
-use Rattle.edit_engine.specs.declared.replies.TakenJob.{TakenJob}
-use Rattle.edit_engine.specs.declared.replies.UnitReport.{UnitReport}
+use Rattle.stand_in_session.specs.declared.replies.TakenJob.{TakenJob}
+use Rattle.stand_in_session.specs.declared.replies.UnitReport.{UnitReport}
 use Rattle.stream_edits.specs.Streams.{end_of, Stream}
-use Rattle.edit_engine.specs.Machines.{Machine}
+use Rattle.stand_in_session.specs.Machines.{Machine}
 use Rattle.stream_session.specs.Machines.{empty}
-use Rattle.edit_engine.specs.Runs.{Answers as Replies}
+use Rattle.stand_in_session.specs.Runs.{Answers as Replies}
 use Rattle.script_run.specs.Answers.{refused_line, loaded_line, reply_lines}
 use Rattle.script_run.specs.JobLines.{settled_line}
 use Rattle.script_run.specs.Marking.{Marks, SaysAltered}
@@ -23,8 +23,8 @@ use Rattle.script_run.specs.Settling.{Settles}
 use Rattle.script_run.specs.ToldUnits.{IsReportJson}
 use Rattle.console_io.specs.Inputs.{Files}
 use Rattle.access_unit.specs.Rooms.{IsStream, IsStreamRefused, most_units}
-use Rattle.unit_json.specs.declared.json_line.JsonLine.{JsonLine}
-use Rattle.unit_lines.specs.Refusals.{refusal_text}
+use Rattle.unit_printing.specs.declared.json.json_line.JsonLine.{JsonLine}
+use Rattle.unit_printing.specs.Refusals.{refusal_text}
 use Rattle.edit_script.specs.SessionScripts.{IsSessionScript}
 use Rattle.edit_script.specs.Words.{id_of}
 use Rattle.edit_script.specs.declared.session_commands.SessionCommand.{SessionCommand}

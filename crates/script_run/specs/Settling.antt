@@ -1,12 +1,12 @@
 -- How `settle` leads from one state of the session to another: for all units, or for the one of an
 -- id (docs/OUTPUT.md).
 use Rattle.std.specs.Prelude.{◌≡◌, ℕ, Bool, true, false, List, [], ◌∷◌, Ok, Option, Some, None}
-use Rattle.edit_engine.specs.declared.commands.Command.TheVariants as told
-use Rattle.edit_engine.specs.declared.replies.Reply.{Reply}
-use Rattle.edit_engine.specs.declared.replies.Reply.TheVariants as replies
-use Rattle.edit_engine.specs.declared.replies.TakenJob.{TakenJob}
-use Rattle.edit_engine.specs.Machines.{Machine}
-use Rattle.edit_engine.specs.Runs.{Answers as Replies}
+use Rattle.stand_in_session.specs.declared.commands.Command.TheVariants as told
+use Rattle.stand_in_session.specs.declared.replies.Reply.{Reply}
+use Rattle.stand_in_session.specs.declared.replies.Reply.TheVariants as replies
+use Rattle.stand_in_session.specs.declared.replies.TakenJob.{TakenJob}
+use Rattle.stand_in_session.specs.Machines.{Machine}
+use Rattle.stand_in_session.specs.Runs.{Answers as Replies}
 use Rattle.stream_session.specs.Taken.{input_of}
 
 -- this job is taken, or none, since no picture is due, or none of those that the unit of the id

@@ -5,7 +5,7 @@ use Rattle.unit_outcomes.specs.declared.validity_fault.ValidityFault.{ValidityFa
 use Rattle.unit_outcomes.specs.Names.{name_of}
 use Rattle.unit_outcomes.specs.Numbers.{number_of}
 use Rattle.stand_in_device.specs.declared.picture.Picture.{Picture}
-use Rattle.edit_engine.specs.Showing.{Shown}
+use Rattle.stand_in_session.specs.Showing.{Shown}
 use Rattle.stream_session.specs.declared.showing.Shown.TheVariants.{Ready, Pending, Fault, Empty, NoSuchUnit}
 
 -- the line of a unit of which a word is shown

@@ -3,7 +3,7 @@ use Rattle.std.specs.Prelude.{◌≡◌, ℕ, Bool, List, Option, ◌⊎◌}
 use Rattle.std.specs.Borrow.{Bor}
 use Rattle.std.specs.Io.KnownBytes.{Keeps}
 use Rattle.console_io.specs.Inputs.{Files}
-use Rattle.edit_engine.specs.Machines.{Machine}
+use Rattle.stand_in_session.specs.Machines.{Machine}
 use Rattle.stream_session.specs.Machines.{empty}
 use Rattle.edit_script.specs.SessionScripts.{HasFirstWrongForSession, IsSessionScript}
 use Rattle.edit_script.specs.declared.session_commands.SessionCommand.{SessionCommand}
@@ -12,7 +12,7 @@ use Rattle.script_run.specs.RunFaults.{IsCommandFault}
 use Rattle.script_run.specs.Sequences.{StopsAmong}
 use Rattle.script_run.specs.declared.run_fault.RunFault.{RunFault}
 use Rattle.script_run.specs.declared.run_fault.RunFault.TheVariants.{Unread, Script, Memory}
-use Rattle.unit_json.specs.declared.json_line.JsonLine.{JsonLine}
+use Rattle.unit_printing.specs.declared.json.json_line.JsonLine.{JsonLine}
 
 module _ (says : JsonLine → List ℕ → Type 0) where
   -- the commands stop at one of them: those before it were answered, and that was written

@@ -1,15 +1,15 @@
 -- The line of JSON of a unit of a session (docs/OUTPUT.md).
 use Rattle.std.specs.Prelude.{◌≡◌, ℕ, Some, Result, Ok, Err}
-use Rattle.doubts.specs.InDoubt.{IsDoubt}
-use Rattle.doubts.specs.declared.doubt.Doubt.{Doubt}
+use Rattle.unit_outcomes.specs.InDoubt.{IsDoubt}
+use Rattle.unit_outcomes.specs.declared.doubts.doubt.Doubt.{Doubt}
 use Rattle.stream_edits.specs.Streams.{Stream, place_of}
 use Rattle.stream_session.specs.Doubting.{seen_in}
 use Rattle.stream_session.specs.declared.refusals.NoSuchUnit.{NoSuchUnit}
-use Rattle.edit_engine.specs.declared.replies.UnitReport.{UnitReport}
+use Rattle.stand_in_session.specs.declared.replies.UnitReport.{UnitReport}
 use Rattle.edit_script.specs.Words.{id_of}
-use Rattle.unit_json.specs.JsonLines.{no_unit_line, told_line}
-use Rattle.unit_json.specs.declared.decode_mode.DecodeMode.TheVariants.{SliceBased}
-use Rattle.unit_json.specs.declared.json_line.JsonLine.{JsonLine}
+use Rattle.unit_printing.specs.JsonLines.{no_unit_line, told_line}
+use Rattle.unit_printing.specs.declared.json.decode_mode.DecodeMode.TheVariants.{SliceBased}
+use Rattle.unit_printing.specs.declared.json.json_line.JsonLine.{JsonLine}
 
 -- the break that the unit of the id follows, and whether it is in doubt
 abbrev pub IsToldOf : Stream → ℕ → Doubt → Type 0

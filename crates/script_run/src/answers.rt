@@ -3,7 +3,7 @@
 ghost use Rattle.std.specs.Prelude.{Some};
 ghost use Rattle.script_run.specs.Answers.{accepted_line, loaded_line, no_unit_line, refused_line};
 
-use edit_engine::{EditRefused, Receipt};
+use stand_in_session::{EditRefused, Receipt};
 use std::fmt;
 use std::fmt::{Display, Formatter, Write};
 

@@ -3,8 +3,8 @@
 ghost use Rattle.std.specs.Prelude.{Some};
 ghost use Rattle.script_run.specs.GroupLines.{group_line, group_refused_line, ids_text};
 
-use edit_engine::{GroupReceipt, GroupRefused};
-use pictures::AuId;
+use h264_types::pictures::AuId;
+use stand_in_session::{GroupReceipt, GroupRefused};
 use std::fmt;
 use std::fmt::{Display, Formatter, Write};
 

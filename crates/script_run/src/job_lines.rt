@@ -3,7 +3,7 @@
 ghost use Rattle.std.specs.Prelude.{◌≡◌, Some};
 ghost use Rattle.script_run.specs.JobLines.{dropped_line, dropping_words, given_line, landed_line, landing_word, returning_word, taken_line};
 
-use edit_engine::{Dropping, Landing, NotOut, Returning, TakenJob};
+use stand_in_session::{Dropping, Landing, NotOut, Returning, TakenJob};
 use std::fmt;
 use std::fmt::{Display, Formatter, Write};
 

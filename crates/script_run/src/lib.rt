@@ -16,10 +16,10 @@ mod options;
 mod run;
 mod run_fault;
 mod settling;
+pub mod shared;
 mod shown_lines;
 
 pub use answers::{AcceptedLine, LoadedLine, RefusedLine};
-pub use edit_engine::MOST_ROOM;
 pub use group_lines::{GroupLine, GroupRefusedLine};
 pub use job_lines::DroppedLine;
 pub use loading::shared_file;
@@ -29,3 +29,4 @@ pub use run::script_on;
 pub use run_fault::RunFault;
 pub use settling::{Stopped, settle_for};
 pub use shown_lines::shown_line;
+pub use stand_in_session::MOST_ROOM;

@@ -3,9 +3,9 @@
 ghost use Rattle.std.specs.Prelude.{◌≡◌, ℕ, List, length, IfErr, IfOk, IfSome, string_bytes};
 ghost use Rattle.annexb.specs.ByteStream.{joined};
 ghost use Rattle.stream_edits.specs.declared.edits.Edit.TheVariants.{Insert};
-ghost use Rattle.edit_engine.specs.declared.commands.Command.TheVariants as told;
-ghost use Rattle.edit_engine.specs.declared.replies.Reply.TheVariants as replies;
-ghost use Rattle.edit_engine.specs.Runs.{Answers as Replies};
+ghost use Rattle.stand_in_session.specs.declared.commands.Command.TheVariants as told;
+ghost use Rattle.stand_in_session.specs.declared.replies.Reply.TheVariants as replies;
+ghost use Rattle.stand_in_session.specs.Runs.{Answers as Replies};
 ghost use Rattle.script_run.specs.RunFaults.{IsLoadFault};
 ghost use Rattle.stream_edits.specs.Streams.{end_of};
 ghost use Rattle.script_run.specs.Running.{InsertsAll, Loads};
@@ -15,11 +15,11 @@ use crate::run_fault::RunFault;
 use access_unit::{MOST_UNITS, ReadFault, read_units};
 use bytes::Bytes;
 use console_io::Source;
-use edit_engine::{EditRefused, ReadEdit, Receipt, Runner};
 use picture_keys::{HashedUnit, hash_units};
+use stand_in_session::{EditRefused, ReadEdit, Receipt, Runner};
 use std::alloc::{AllocError, Global};
 use std::thread::Threads;
-use unit_lines::RefusalLine;
+use unit_printing::lines::RefusalLine;
 
 /// Inserts the units of the file of this name after the last one, each by an edit, and gives the
 /// line that says how many; or why the file's stream is refused, or why an edit is, which ends the

@@ -3,8 +3,8 @@
 ghost use Rattle.std.specs.Prelude.{◌≡◌, IfOk, Some, string_bytes};
 ghost use Rattle.script_run.specs.Marking.{altered_line, altered_word, Marks, SaysAltered};
 
-use edit_engine::{Runner, Session};
 use edit_script::id_of_number;
+use stand_in_session::{Runner, Session};
 use std::alloc::{AllocError, Global};
 use std::fmt;
 use std::fmt::{Display, Formatter, Write};

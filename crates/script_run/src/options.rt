@@ -1,7 +1,7 @@
 //! With what a script is run.
 
 ghost use Rattle.std.specs.Prelude.{◌≤◌};
-ghost use Rattle.picture_cache.specs.Bounded.{most_room};
+ghost use Rattle.held_pictures.specs.Bounded.{most_room};
 
 /// With what a script is run.
 #[derive(Clone, Copy, Debug)]

@@ -22,14 +22,16 @@ use crate::run_fault::RunFault;
 use crate::settling::settle;
 use crate::shown_lines::shown_line;
 use console_io::{Ended, Sink, Source, Status, whole_input, write_bytes};
-use edit_engine::{Command as Told, Config, Doubt, NoSuchUnit, Reply, Runner, Session, UnitReport};
 use edit_script::{SessionCommand as Command, id_of_number, read_session_script};
-use pictures::AuId;
+use h264_types::pictures::AuId;
+use stand_in_session::{
+    Command as Told, Config, Doubt, NoSuchUnit, Reply, Runner, Session, UnitReport,
+};
 use std::alloc::{AllocError, Global};
 use std::io::Read;
 use std::thread::Threads;
-use unit_json::{DecodeMode, Encoder, JsonLine};
-use unit_lines::UnitLines;
+use unit_printing::json::{DecodeMode, Encoder, JsonLine};
+use unit_printing::lines::UnitLines;
 
 /// Runs the script that the reader gives, whose files the source gives, on a session of its own.
 /// Each line that is a command is answered by one write, and `json` by a line of this encoder. Why

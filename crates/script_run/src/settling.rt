@@ -4,13 +4,13 @@
 ghost use Rattle.std.specs.Prelude.{◌≡◌, ◌≤◌, List, Some, IfOk, IsErrOf, OnOk, string_bytes};
 ghost use Rattle.picture_store.specs.Jobs.{most_jobs};
 ghost use Rattle.stream_session.specs.Needing.{IsAnyOutFor, IsPendingIn};
-ghost use Rattle.edit_engine.specs.declared.replies.TakenJob.{TakenJob};
+ghost use Rattle.stand_in_session.specs.declared.replies.TakenJob.{TakenJob};
 ghost use Rattle.script_run.specs.JobLines.{settled_line};
 ghost use Rattle.script_run.specs.Settling.{LandsNext, Settles, Takes};
 ghost use Rattle.script_run.specs.declared.settling.Stopped.TheVariants.{Memory};
 
-use edit_engine::{Command as Told, Reply, Runner, TakeRefused, TakenJob};
-use pictures::AuId;
+use h264_types::pictures::AuId;
+use stand_in_session::{Command as Told, Reply, Runner, TakeRefused, TakenJob};
 use std::alloc::{AllocError, Global};
 
 /// Why jobs aren't taken and landed to the end.

@@ -4,7 +4,7 @@ ghost use Rattle.std.specs.Prelude.{◌≡◌, IfOk, Some, string_bytes};
 ghost use Rattle.hex.specs.Hex.{encode_lower};
 ghost use Rattle.script_run.specs.ShownLines.{digits_line, fault_line, shown_line, word_line};
 
-use edit_engine::{Picture, Shown};
+use stand_in_session::{Picture, Shown};
 use std::alloc::{AllocError, Global};
 use std::fmt;
 use std::fmt::{Display, Formatter, Write};

@@ -8,13 +8,13 @@ use Rattle.stand_in_device.specs.declared.picture.Picture.{Picture}
 use Rattle.decode_jobs.specs.Keys.{Key}
 use Rattle.stand_in_device.specs.KeyPictures.{picture_of_key}
 use Rattle.picture_store.specs.Stores.{AreNumbered, AreOneToOne, IsNumberOf}
-use Rattle.key_slots.proofs.Members.{nowhere}
+use Rattle.held_pictures.proofs.Members.{nowhere}
 use Rattle.stream_edits.specs.declared.edits.Edit.{Edit}
-use Rattle.edit_engine.specs.Showing.{Shown}
+use Rattle.stand_in_session.specs.Showing.{Shown}
 use Rattle.stream_session.specs.declared.showing.Shown.TheVariants as shown
 use Rattle.stream_edits.specs.Edits.{Register}
 use Rattle.stream_edits.specs.Groups.{MakesAll}
-use Rattle.edit_engine.specs.Machines.{Machine}
+use Rattle.stand_in_session.specs.Machines.{Machine}
 use Rattle.stream_session.specs.Machines.{RefitsTo, empty, store_of, uncached}
 use Rattle.stream_session.specs.Showing.{HasKey}
 use Rattle.seat_books.specs.declared.book.SeatBook.{SeatBook}

@@ -8,12 +8,12 @@ use Rattle.decode_jobs.specs.Keys.{Key}
 use Rattle.picture_keys.specs.Known.{key_of, known_after}
 use Rattle.picture_store.specs.declared.answers.Landing.{Landing}
 use Rattle.picture_store.specs.declared.answers.Landing.TheVariants as landings
-use Rattle.edit_engine.specs.Machines.{OutValue, StoreValue, Machine}
+use Rattle.stand_in_session.specs.Machines.{OutValue, StoreValue, Machine}
 use Rattle.picture_store.specs.Stores.{AreOneToOne, IsNumberOf}
 use Rattle.picture_store.specs.Jobs as pictures
 use Rattle.stream_edits.specs.declared.edits.Edit.{Edit}
 use Rattle.stream_edits.specs.Edits.{Register}
-use Rattle.edit_engine.specs.Jobs.{TellsTake, AnswersLand}
+use Rattle.stand_in_session.specs.Jobs.{TellsTake, AnswersLand}
 use Rattle.stream_session.specs.Jobs.{IsFirstWith}
 use Rattle.stream_session.proofs.ByNumber.{same_machine}
 use Rattle.stream_session.specs.Machines.{store_of}

@@ -7,7 +7,7 @@ use Rattle.stream_edits.specs.declared.edits.Edit.{Edit}
 use Rattle.stream_edits.specs.Edits.{Register, no_units, Replays}
 use Rattle.stream_edits.specs.Groups.{MakesAll}
 use Rattle.stream_edits.specs.Journals.{edits_of}
-use Rattle.edit_engine.specs.Machines.{Machine}
+use Rattle.stand_in_session.specs.Machines.{Machine}
 use Rattle.stream_edits.proofs.Grouped.{Replays-entry}
 use Rattle.seat_books.specs.Books.{LeadTo}
 use Rattle.seat_books.specs.Following.{IsFront, MakesEntry}

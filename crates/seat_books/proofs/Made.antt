@@ -6,7 +6,7 @@ use Rattle.stream_edits.specs.declared.receipts.Receipt.{Receipt}
 use Rattle.stream_edits.specs.Groups.{MakesAll}
 use Rattle.stream_edits.proofs.Grouped.{MakesAll-one}
 use Rattle.stream_session.specs.Grouping.{EditsAll}
-use Rattle.edit_engine.specs.Machines.{Machine}
+use Rattle.stand_in_session.specs.Machines.{Machine}
 use Rattle.stream_session.specs.Machines.{Edits}
 use Rattle.seat_books.specs.Following.{MakesEntry}
 

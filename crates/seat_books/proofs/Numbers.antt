@@ -2,7 +2,7 @@
 use Rattle.std.proofs.Common.{◌≡◌, ℕ, zero, suc, List, [], ◌∷◌, take, Option, None, Some, ap, sym, ◌∙◌, subst, arith}
 use Rattle.std.specs.Prelude.{slice_get, option_and_then, Contains}
 use Rattle.decode_jobs.specs.Keys.{Key}
-use Rattle.edit_engine.specs.Machines.{StoreValue, Machine}
+use Rattle.stand_in_session.specs.Machines.{StoreValue, Machine}
 use Rattle.picture_store.specs.Stores.{AreOneToOne, IsNumberOf, unit_keys}
 use Rattle.stream_edits.specs.Edits.{Register}
 use Rattle.stream_edits.specs.Streams.{Stream, ids_of, place_of}

@@ -7,13 +7,13 @@ use Rattle.std.proofs.lemmas.List.Elements.{All-contains}
 use Rattle.std.proofs.lemmas.Option.{slice_get_within}
 use Rattle.stand_in_device.specs.declared.picture.Picture.{Picture}
 use Rattle.decode_jobs.specs.Keys.{Key}
-use Rattle.key_slots.proofs.Members.{nowhere}
+use Rattle.held_pictures.proofs.Members.{nowhere}
 use Rattle.picture_store.specs.Stores.{AreNumbered, AreOneToOne, IsNumberOf}
 use Rattle.stream_edits.specs.declared.edits.Edit.{Edit}
-use Rattle.edit_engine.specs.declared.dropping.Dropping.TheVariants as dropping
+use Rattle.stand_in_session.specs.declared.dropping.Dropping.TheVariants as dropping
 use Rattle.stream_session.specs.declared.showing.Shown.TheVariants as shown
 use Rattle.stream_edits.specs.Edits.{Register}
-use Rattle.edit_engine.specs.Machines.{Machine}
+use Rattle.stand_in_session.specs.Machines.{Machine}
 use Rattle.stream_session.specs.Machines.{RefitsTo, store_of}
 use Rattle.stream_session.specs.Showing.{HasKey}
 use Rattle.seat_books.specs.declared.book.SeatBook.{SeatBook}

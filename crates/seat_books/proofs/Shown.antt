@@ -8,8 +8,8 @@ use Rattle.decode_jobs.specs.Keys.{Key}
 use Rattle.picture_keys.specs.Known.{Known, key_of_outcome, keys_after, known_with}
 use Rattle.stream_edits.specs.Streams.{Stream, ids_of, place_of}
 use Rattle.stream_session.specs.declared.showing.Shown.TheVariants as shown
-use Rattle.edit_engine.specs.Machines.{Machine}
-use Rattle.edit_engine.specs.Showing.{Shows}
+use Rattle.stand_in_session.specs.Machines.{Machine}
+use Rattle.stand_in_session.specs.Showing.{Shows}
 use Rattle.stream_session.specs.Showing.{keys_in, HasKey}
 use Rattle.stream_session.specs.Streams.{outcome_in}
 use Rattle.seat_books.proofs.Numbers.{has_place, one_key}

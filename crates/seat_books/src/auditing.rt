@@ -15,7 +15,7 @@ use crate::faults::AuditFault;
 use crate::noted::note;
 use crate::number_set::NumberSet;
 use crate::replay::Replay;
-use edit_engine::JournalEntry;
+use stand_in_session::JournalEntry;
 use std::alloc::{AllocError, Global};
 
 /// Whether the books of seats, in the seats' order, agree with a journal of which each edit is

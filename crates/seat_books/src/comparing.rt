@@ -3,7 +3,7 @@
 ghost use Rattle.std.specs.Prelude.{◌≡◌};
 ghost use Rattle.std.specs.Bool.{Decides};
 
-use edit_engine::Edit;
+use stand_in_session::Edit;
 
 /// Whether both are the same edits in the same order.
 pub(crate) fn same_edits(edits: &[Edit], others: &[Edit]) -> bool

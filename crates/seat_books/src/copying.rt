@@ -2,7 +2,7 @@
 
 ghost use Rattle.std.specs.Prelude.{◌≡◌, IfOk};
 
-use edit_engine::{Edit, JournalEntry};
+use stand_in_session::{Edit, JournalEntry};
 use std::alloc::{AllocError, Global};
 
 /// The edits once more; they share their bytes.

@@ -6,8 +6,8 @@ ghost use Rattle.seat_books.specs.declared.drop_table.SeatDrop.{SeatDrop as Drop
 
 use crate::book::SeatBook;
 use crate::receipts::SeatReceipt;
-use edit_engine::Dropping;
-use pictures::AuId;
+use h264_types::pictures::AuId;
+use stand_in_session::Dropping;
 use std::alloc::{AllocError, Global};
 
 /// A seat, counted from 0, dropped the picture of the unit of the id.

@@ -15,8 +15,8 @@ ghost use Rattle.seat_books.specs.Sets.{has};
 use crate::drop_table::DropTable;
 use crate::number_set::NumberSet;
 use crate::replay::{Replay, is_absent};
-use edit_engine::{Dropping, Session};
-use pictures::AuId;
+use h264_types::pictures::AuId;
+use stand_in_session::{Dropping, Session};
 use std::alloc::AllocError;
 
 impl Replay {

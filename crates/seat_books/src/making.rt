@@ -5,8 +5,8 @@ ghost use Rattle.stream_session.specs.Machines.{RefitsTo, store_of};
 ghost use Rattle.seat_books.specs.Following.{MakesEntry};
 
 use crate::copying::copy_of_edits;
-use edit_engine::{Edit, GroupReceipt, Session};
-use pictures::AuId;
+use h264_types::pictures::AuId;
+use stand_in_session::{Edit, GroupReceipt, Session};
 use std::alloc::{AllocError, Global};
 
 /// Makes the edits of an entry, and answers the ids that they are given. A journal's are refused

@@ -3,8 +3,8 @@
 ghost use Rattle.std.specs.Prelude.{◌≡◌, IfOk};
 
 use crate::copying::copy_of_edits;
-use edit_engine::Edit;
-use pictures::AuId;
+use h264_types::pictures::AuId;
+use stand_in_session::Edit;
 use std::alloc::{AllocError, Global};
 use std::marker::Model;
 

@@ -4,8 +4,8 @@ ghost use Rattle.std.specs.Prelude.{◌≡◌, IfOk};
 ghost use Rattle.seat_books.specs.Books.{length_in};
 
 use crate::noted_group::NotedGroup;
-use edit_engine::{Dropping, Edit, Shown};
-use pictures::AuId;
+use h264_types::pictures::AuId;
+use stand_in_session::{Dropping, Edit, Shown};
 use std::alloc::AllocError;
 
 /// What a seat notes of a call, with the journal's length after it.

@@ -5,17 +5,17 @@ ghost use Rattle.stand_in_device.specs.Jobs.{JobValue};
 ghost use Rattle.picture_store.specs.Jobs.{IsAnyDue, most_jobs};
 ghost use Rattle.picture_store.specs.declared.refusals.TakeRefused.TheVariants.{JobsSpent};
 ghost use Rattle.stream_edits.specs.declared.edits.Edit.{Edit as EditValue};
-ghost use Rattle.edit_engine.specs.Jobs.{TellsTake};
-ghost use Rattle.edit_engine.specs.Machines.{Machine};
+ghost use Rattle.stand_in_session.specs.Jobs.{TellsTake};
+ghost use Rattle.stand_in_session.specs.Machines.{Machine};
 ghost use Rattle.stream_session.specs.Machines.{store_of};
 ghost use Rattle.seat_books.specs.declared.book.SeatBook.{SeatBook as Book};
 ghost use Rattle.seat_books.specs.declared.receipts.SeatReceipt.{SeatReceipt as Receipt};
 ghost use Rattle.seat_books.specs.Following.{IsReplayed, Stays};
 
 use crate::replay::Replay;
-use edit_engine::TakeRefused;
-use pictures::AuId;
+use h264_types::pictures::AuId;
 use stand_in_device::{Job, Undone};
+use stand_in_session::TakeRefused;
 use std::alloc::AllocError;
 
 impl Replay {

@@ -6,7 +6,7 @@ use Rattle.hex.specs.Hex.{encode_lower}
 use Rattle.h264_controls.specs.declared.request.Request.{Request}
 use Rattle.stand_in_device.specs.Inputs.{InputValue}
 use Rattle.stand_in_device.specs.Inputs.{Reference}
-use Rattle.unit_json.specs.RequestsJson.{request_json}
+use Rattle.unit_printing.specs.RequestsJson.{request_json}
 use Rattle.serve_answers.specs.declared.job_answers.JobAnswer.{JobAnswer}
 use Rattle.serve_answers.specs.declared.job_answers.ReferenceAnswer.{ReferenceAnswer}
 use Rattle.serve_answers.specs.declared.job_answers.RequestAnswer.{RequestAnswer}

@@ -2,10 +2,10 @@
 use Rattle.std.specs.Prelude.{Option, Some, None, Result, Ok, Err}
 use Rattle.hex.specs.Hex.{encode_lower}
 use Rattle.unit_outcomes.specs.Numbers.{number_of}
-use Rattle.edit_engine.specs.declared.refusals.NotOut.{NotOut}
-use Rattle.edit_engine.specs.declared.dropping.Dropping.{Dropping}
-use Rattle.edit_engine.specs.declared.dropping.Dropping.TheVariants as dropping
-use Rattle.edit_engine.specs.Showing.{Shown}
+use Rattle.stand_in_session.specs.declared.refusals.NotOut.{NotOut}
+use Rattle.stand_in_session.specs.declared.dropping.Dropping.{Dropping}
+use Rattle.stand_in_session.specs.declared.dropping.Dropping.TheVariants as dropping
+use Rattle.stand_in_session.specs.Showing.{Shown}
 use Rattle.stream_session.specs.declared.showing.Shown.TheVariants as shown
 use Rattle.picture_store.specs.declared.answers.Landing.{Landing}
 use Rattle.picture_store.specs.declared.answers.Landing.TheVariants as landing
@@ -18,7 +18,7 @@ use Rattle.stream_edits.specs.declared.refusals.EditRefused.{EditRefused}
 use Rattle.serve_requests.specs.declared.failure.Failure.{Failure}
 use Rattle.serve_requests.specs.declared.failure.Failure.TheVariants.{Refused}
 use Rattle.serve_requests.specs.declared.failure.Refusal.TheVariants as refusal
-use Rattle.changed_units.specs.declared.changed.Changed.{Changed}
+use Rattle.picture_keys.specs.declared.changed_units.changed.Changed.{Changed}
 use Rattle.serve_answers.specs.declared.answer.Stretch.{Stretch}
 use Rattle.serve_answers.specs.declared.answer.Answer.{Answer}
 use Rattle.serve_answers.specs.declared.answer.Answer.TheVariants.{Edited, Grouped, Shown as Shows, Word}

@@ -4,10 +4,10 @@ use Rattle.std.specs.Option.{unwrap_or}
 use Rattle.unit_outcomes.specs.declared.outcome.Outcome.{Outcome}
 use Rattle.unit_outcomes.specs.declared.outcome.Outcome.TheVariants as outcomes
 use Rattle.unit_outcomes.specs.declared.outcome.Plan.{Plan as PlanValue}
-use Rattle.unit_json.specs.JsonLines.{head_json, told_line}
-use Rattle.unit_json.specs.RequestsJson.{request_json}
-use Rattle.unit_json.specs.declared.decode_mode.DecodeMode.TheVariants.{SliceBased}
-use Rattle.unit_json.specs.declared.request_json.RequestJson.{RequestJson}
+use Rattle.unit_printing.specs.JsonLines.{head_json, told_line}
+use Rattle.unit_printing.specs.RequestsJson.{request_json}
+use Rattle.unit_printing.specs.declared.json.decode_mode.DecodeMode.TheVariants.{SliceBased}
+use Rattle.unit_printing.specs.declared.json.request_json.RequestJson.{RequestJson}
 use Rattle.serve_answers.specs.declared.unit_answers.PlanAnswer.{PlanAnswer}
 use Rattle.serve_answers.specs.declared.unit_answers.Told.{Told}
 use Rattle.serve_answers.specs.declared.unit_answers.UnitAnswer.{UnitAnswer}

@@ -9,10 +9,10 @@ use crate::journal_answers::EntryAnswer;
 use crate::left_out_answers::LeftOutAnswer;
 use crate::unit_answers::UnitAnswer;
 use crate::words::{Digits, Word};
-use edit_engine::Changed;
-use pictures::AuId;
+use h264_types::pictures::AuId;
 use serde::{Serialize, Serializer};
 use serve_requests::Listed;
+use stand_in_session::Changed;
 use unit_outcomes::ValidityFault;
 
 /// The result of a call.

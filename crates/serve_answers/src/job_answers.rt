@@ -5,12 +5,12 @@ ghost use Rattle.serve_answers.specs.JobAnswers.{job_answer, reference_answer, r
 
 use crate::words::Digits;
 use h264_controls::Request;
-use pictures::AuId;
+use h264_types::pictures::AuId;
 use serde::Serialize;
 use serve_requests::Listed;
 use stand_in_device::{Input, Reference};
 use std::alloc::{AllocError, Global};
-use unit_json::RequestJson;
+use unit_printing::json::RequestJson;
 
 /// A job.
 #[derive(Debug, Drop, Serialize)]

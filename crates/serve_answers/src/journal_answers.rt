@@ -7,7 +7,7 @@ ghost use Rattle.serve_answers.specs.JournalAnswers.{after_of, edit_answer, entr
 
 use crate::words::Digits;
 use bytes::Bytes;
-use pictures::AuId;
+use h264_types::pictures::AuId;
 use serde::Serialize;
 use serve_requests::Listed;
 use std::alloc::{AllocError, Global};

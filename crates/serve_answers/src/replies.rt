@@ -5,10 +5,10 @@ ghost use Rattle.serve_answers.specs.Replies.{drop_answer, edit_answer, give_bac
 
 use crate::answer::{Answer, Appearance, State, Stretch};
 use crate::words::{Digits, Word};
-use edit_engine::{
+use serve_requests::{Failure, Listed, Refusal};
+use stand_in_session::{
     Dropping, EditRefused, GroupReceipt, GroupRefused, Landing, NotOut, Receipt, Returning, Shown,
 };
-use serve_requests::{Failure, Listed, Refusal};
 use std::alloc::{AllocError, Global};
 
 /// The result of an edit.

@@ -4,12 +4,12 @@
 ghost use Rattle.std.specs.Prelude.{◌≡◌, IfOk};
 ghost use Rattle.serve_answers.specs.UnitAnswers.{plan_answer, requests_if, unit_answer};
 
-use edit_engine::Doubt;
-use pictures::AuId;
+use h264_types::pictures::AuId;
 use serde::Serialize;
+use stand_in_session::Doubt;
 use std::alloc::{AllocError, Global};
-use unit_json::{DecodeMode, HeadJson, JsonLine, RequestsJson};
 use unit_outcomes::{Outcome, Plan};
+use unit_printing::json::{DecodeMode, HeadJson, JsonLine, RequestsJson};
 
 /// A unit's outcome.
 #[derive(Debug, Drop, Serialize)]

@@ -1,7 +1,7 @@
 -- Units that are altered.
 use Rattle.std.proofs.Common.{◌≡◌, ℕ, Option, None, Some, option_and_then, slice_get, subst}
 use Rattle.std.proofs.lemmas.Option.{none-some}
-use Rattle.edit_engine.specs.Machines.{Machine}
+use Rattle.stand_in_session.specs.Machines.{Machine}
 use Rattle.stream_edits.specs.Streams.{place_of}
 use Rattle.stream_session.specs.Altered.{IsAltered}
 use Rattle.stream_session.specs.Showing.{keys_in}

@@ -2,10 +2,10 @@
 use Rattle.std.proofs.Common.{◌≡◌, ◌∙◌, ◌+◌, ◌<◌, ◌≤◌, ℕ, List, [], ◌∷◌, ◌++◌, length, take, drop, slice_index_or, ap, sym, refl, subst, inl, inr, arith}
 use Rattle.std.proofs.lemmas.Bool.{cases_lt}
 use Rattle.std.proofs.lemmas.List.{get_or_append_left, get_or_push, length-take, length-drop, length_push}
-use Rattle.doubts.specs.InDoubt.{AreDoubts, IsDoubt}
-use Rattle.doubts.specs.SeenUnits.{SeenUnit}
-use Rattle.doubts.specs.declared.doubt.Doubt.{Doubt}
-use Rattle.edit_engine.specs.Machines.{Machine}
+use Rattle.unit_outcomes.specs.InDoubt.{AreDoubts, IsDoubt}
+use Rattle.unit_outcomes.specs.SeenUnits.{SeenUnit}
+use Rattle.unit_outcomes.specs.declared.doubts.doubt.Doubt.{Doubt}
+use Rattle.stand_in_session.specs.Machines.{Machine}
 use Rattle.serve_answers.specs.declared.unit_answers.Told.{Told}
 use Rattle.serve_calls.specs.Answering.{AreToldFrom, IsToldAt}
 

@@ -1,9 +1,9 @@
 -- What is recorded of a load.
 use Rattle.std.proofs.Common.{◌≡◌, ℕ, List, Option, Result, Ok, Err, inl, inr, refl, subst, sym}
 use Rattle.access_unit.specs.Rooms.{IsStream}
-use Rattle.edit_engine.specs.Machines.{Machine}
+use Rattle.stand_in_session.specs.Machines.{Machine}
 use Rattle.stream_edits.specs.declared.receipts.GroupReceipt.{GroupReceipt}
-use Rattle.journal_steps.specs.declared.step.Step.{Step}
+use Rattle.session_journal.specs.declared.steps.step.Step.{Step}
 use Rattle.session_journal.specs.declared.unkept.Unkept.{Unkept}
 use Rattle.session_journal.specs.declared.unkept.Unkept.TheVariants as unkept
 use Rattle.serve_requests.specs.declared.call.Loaded.{Loaded}

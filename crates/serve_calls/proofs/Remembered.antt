@@ -4,17 +4,17 @@ use Rattle.edit_history.specs.declared.history.History.{History}
 use Rattle.edit_history.specs.Changes.{ChangesAll}
 use Rattle.edit_history.specs.Histories.{IsHistory}
 use Rattle.edit_history.specs.Texts.{Texts}
-use Rattle.edit_engine.specs.Machines.{Machine}
+use Rattle.stand_in_session.specs.Machines.{Machine}
 use Rattle.stream_edits.specs.declared.edits.Edit.{Edit}
 use Rattle.stream_edits.specs.declared.receipts.GroupReceipt.{GroupReceipt}
 use Rattle.stream_edits.specs.declared.receipts.Receipt.{Receipt}
 use Rattle.stream_edits.specs.Edits.{Makes, Register}
 use Rattle.stream_edits.specs.Groups.{MakesAll}
-use Rattle.undo_redo.specs.declared.prepared.Step.{Step}
-use Rattle.undo_redo.specs.declared.undo_redo.UndoRedo.{UndoRedo}
-use Rattle.undo_redo.specs.States.{IsAsBefore, IsUnderWay, IsUndoRedo}
-use Rattle.undo_redo.proofs.Led.{kept-same}
-use Rattle.undo_redo.proofs.Stepped.{history-same}
+use Rattle.edit_history.specs.declared.undo_redo.prepared.Step.{Step}
+use Rattle.edit_history.specs.declared.undo_redo.undo_redo.UndoRedo.{UndoRedo}
+use Rattle.edit_history.specs.States.{IsAsBefore, IsUnderWay, IsUndoRedo}
+use Rattle.edit_history.proofs.UndoRedoLed.{kept-same}
+use Rattle.edit_history.proofs.Stepped.{history-same}
 use Rattle.serve_calls.specs.declared.server.Server.{Server}
 use Rattle.serve_calls.specs.declared.sums.Sums.{Sums}
 use Rattle.serve_calls.specs.declared.unmade.EditFault.{EditFault}

@@ -1,6 +1,6 @@
 -- Recorded edits that are made again.
 use Rattle.std.proofs.Common.{◌≡◌, ◌≢◌, List, [], ◌∷◌, ◌++◌, Result, Ok, Err, IfOk, IsOk, OnOk, ap, arith, inl, inr, length, refl, rules}
-use Rattle.edit_engine.specs.Machines.{Machine}
+use Rattle.stand_in_session.specs.Machines.{Machine}
 use Rattle.stream_edits.specs.declared.edits.Edit.{Edit}
 use Rattle.stream_edits.specs.declared.group_refused.GroupRefused.{GroupRefused}
 use Rattle.stream_edits.specs.declared.group_refused.GroupRefused.TheVariants as groups
@@ -12,9 +12,9 @@ use Rattle.serve_calls.specs.declared.replaying.Unreplayed.{Unreplayed}
 use Rattle.serve_calls.specs.declared.replaying.Unreplayed.TheVariants as unreplayed
 use Rattle.serve_calls.specs.declared.journaled.Journaled.{Journaled}
 use Rattle.serve_calls.specs.declared.server.Server.{Server}
-use Rattle.journal_steps.specs.declared.step.Step.{Step as Recorded}
-use Rattle.journal_steps.specs.declared.step.Step.TheVariants.{Edits, Load, Snapshot}
-use Rattle.session_journal.specs.Kept.{with_left}
+use Rattle.session_journal.specs.declared.steps.step.Step.{Step as Recorded}
+use Rattle.session_journal.specs.declared.steps.step.Step.TheVariants.{Edits, Load, Snapshot}
+use Rattle.session_journal.specs.SessionJournalKept.{with_left}
 use Rattle.serve_calls.specs.Resuming.{ReplaysOnto, ReplaysSteps}
 use Rattle.serve_calls.specs.declared.unmade.EditFault.{EditFault}
 use Rattle.serve_calls.specs.declared.unmade.EditFault.TheVariants as edit_fault
@@ -22,8 +22,8 @@ use Rattle.serve_calls.specs.declared.unmade.GroupFault.{GroupFault}
 use Rattle.serve_calls.specs.declared.unmade.GroupFault.TheVariants as group_fault
 use Rattle.serve_calls.specs.Editing.{MakesEdit, MakesStep}
 use Rattle.serve_calls.specs.Replaying.{RefusesEdit, RefusesGroup, ReplaysEdits}
-use Rattle.stream_snapshot.specs.declared.read_snapshot.SnapshotRefused.{SnapshotRefused}
-use Rattle.stream_snapshot.specs.declared.read_snapshot.SnapshotRefused.TheVariants as snapshots
+use Rattle.stream_edits.specs.declared.snapshots.read_snapshot.SnapshotRefused.{SnapshotRefused}
+use Rattle.stream_edits.specs.declared.snapshots.read_snapshot.SnapshotRefused.TheVariants as snapshots
 use Rattle.serve_calls.specs.Unreplayed.{replayed_edit, replayed_group, unreplayed_edit, unreplayed_group, unreplayed_snapshot}
 
 -- where the session's answer is a receipt, the edits are made again

@@ -4,9 +4,9 @@ use Rattle.std.proofs.lemmas.List.{map-append}
 use Rattle.std.proofs.lemmas.List.Elements.{All-push, filter_map-append}
 use Rattle.stand_in_device.specs.declared.picture.Picture.{Picture}
 use Rattle.edit_script.specs.Words.{id_of}
-use Rattle.edit_engine.specs.Showing.{Shown}
-use Rattle.edit_engine.specs.Machines.{Machine}
-use Rattle.edit_engine.specs.Showing.{Shows}
+use Rattle.stand_in_session.specs.Showing.{Shown}
+use Rattle.stand_in_session.specs.Machines.{Machine}
+use Rattle.stand_in_session.specs.Showing.{Shows}
 use Rattle.serve_calls.specs.declared.wanted_units.WantedUnit.{WantedUnit}
 use Rattle.serve_answers.specs.declared.answer.Picked.{Picked}
 use Rattle.serve_calls.specs.declared.wanting.ToldNow.{ToldNow}

@@ -1,11 +1,11 @@
 -- What a session is asked, and the results.
 use Rattle.std.specs.Prelude.{◌≡◌, ◌≢◌, ◌⊎◌, ◌↔◌, ℕ, ◌+◌, ◌<◌, ◌≤◌, AllPairs, Bool, IsTrue, List, length, slice_index_or, take, drop, slice_get, filter_map, option_and_then, option_map, Option, Some, None, Result, Ok, Err}
 use Rattle.std.specs.List.{zip}
-use Rattle.doubts.specs.InDoubt.{IsDoubt}
+use Rattle.unit_outcomes.specs.InDoubt.{IsDoubt}
 use Rattle.stream_edits.specs.Streams.{Stream, ids_of}
 use Rattle.edit_script.specs.Words.{id_of}
-use Rattle.edit_engine.specs.Showing.{Shown, Shows}
-use Rattle.edit_engine.specs.Machines.{Machine}
+use Rattle.stand_in_session.specs.Showing.{Shown, Shows}
+use Rattle.stand_in_session.specs.Machines.{Machine}
 use Rattle.stream_session.specs.Altered.{IsAltered}
 use Rattle.stream_session.specs.Doubting.{seen_in}
 use Rattle.stream_session.specs.Streams.{outcome_in, position_in}

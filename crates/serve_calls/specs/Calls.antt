@@ -1,7 +1,7 @@
 -- The result of each call, and what becomes of the server and of the units that are wanted.
 use Rattle.std.specs.Prelude.{◌≡◌, ℕ, Bool, true, false, List, Option, option_map, Result, Ok, Err}
 use Rattle.edit_script.specs.Words.{id_of}
-use Rattle.edit_engine.specs.Machines.{Machine}
+use Rattle.stand_in_session.specs.Machines.{Machine}
 use Rattle.serve_requests.specs.declared.call.Call.{Call}
 use Rattle.serve_requests.specs.declared.call.Call.TheVariants as call
 use Rattle.serve_requests.specs.declared.failure.Failure.{Failure}

@@ -13,9 +13,9 @@ use Rattle.stream_edits.specs.GroupRefusals.{IsGroupRefused}
 use Rattle.stream_edits.specs.Groups.{most_edits}
 use Rattle.stream_edits.specs.Refusals.{IsRefused}
 use Rattle.edit_script.specs.Words.{id_of}
-use Rattle.edit_engine.specs.declared.dropping.Dropping.{Dropping}
-use Rattle.edit_engine.specs.Machines.{Machine}
-use Rattle.edit_engine.specs.Needing.{AnswersDrop}
+use Rattle.stand_in_session.specs.declared.dropping.Dropping.{Dropping}
+use Rattle.stand_in_session.specs.Machines.{Machine}
+use Rattle.stand_in_session.specs.Needing.{AnswersDrop}
 use Rattle.serve_requests.specs.declared.failure.Failure.{Failure}
 use Rattle.serve_answers.specs.declared.answer.Answer.{Answer}
 use Rattle.serve_answers.specs.declared.answer.Answer.TheVariants.{Word}
@@ -23,8 +23,8 @@ use Rattle.serve_answers.specs.declared.words.Word.TheVariants as word
 use Rattle.serve_answers.specs.Replies.{drop_answer, edit_answer, group_answer}
 use Rattle.serve_calls.specs.declared.server.Server.{Server}
 use Rattle.serve_calls.specs.declared.sums.Sums.{Sums}
-use Rattle.undo_redo.specs.declared.prepared.Step.{Step}
-use Rattle.undo_redo.specs.declared.undo_redo.UndoRedo.{UndoRedo}
+use Rattle.edit_history.specs.declared.undo_redo.prepared.Step.{Step}
+use Rattle.edit_history.specs.declared.undo_redo.undo_redo.UndoRedo.{UndoRedo}
 use Rattle.serve_calls.specs.Remembering.{GoesOnIf, Remembers, Rests}
 use Rattle.serve_calls.specs.Failing.{out_of_memory}
 use Rattle.serve_calls.specs.Sessions.{Clears, Marks, Steps}

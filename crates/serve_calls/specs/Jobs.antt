@@ -5,10 +5,10 @@ use Rattle.picture_store.specs.declared.answers.Landing.{Landing}
 use Rattle.picture_store.specs.declared.answers.Returning.{Returning}
 use Rattle.picture_store.specs.declared.refusals.TakeRefused.{TakeRefused}
 use Rattle.picture_store.specs.declared.refusals.TakeRefused.TheVariants.{JobsSpent}
-use Rattle.edit_engine.specs.declared.refusals.NotOut.{NotOut}
-use Rattle.edit_engine.specs.declared.replies.TakenJob.{TakenJob}
-use Rattle.edit_engine.specs.Machines.{Machine}
-use Rattle.edit_engine.specs.Runs.{TakesJob, TakesJobFor, LandsJob, GivesJobBack}
+use Rattle.stand_in_session.specs.declared.refusals.NotOut.{NotOut}
+use Rattle.stand_in_session.specs.declared.replies.TakenJob.{TakenJob}
+use Rattle.stand_in_session.specs.Machines.{Machine}
+use Rattle.stand_in_session.specs.Runs.{TakesJob, TakesJobFor, LandsJob, GivesJobBack}
 use Rattle.stream_session.specs.Taken.{input_of}
 use Rattle.serve_requests.specs.declared.failure.Failure.{Failure}
 use Rattle.serve_requests.specs.declared.failure.Failure.TheVariants.{Refused}

@@ -6,12 +6,12 @@ use Rattle.stream_edits.specs.declared.edits.Edit.TheVariants.{Insert}
 use Rattle.stream_edits.specs.declared.edits.Place.{Place}
 use Rattle.stream_edits.specs.declared.edits.Place.TheVariants.{After}
 use Rattle.stream_edits.specs.Streams.{last_of, place_after}
-use Rattle.edit_engine.specs.Machines.{Machine}
-use Rattle.journal_steps.specs.declared.step.Step.{Step}
-use Rattle.journal_steps.specs.declared.step.Step.TheVariants.{Load, Snapshot}
-use Rattle.journal_steps.specs.Records.{given_by_steps}
-use Rattle.session_journal.specs.Kept.{with_left}
-use Rattle.stream_snapshot.specs.Snapshots.{SnapshotValue}
+use Rattle.stand_in_session.specs.Machines.{Machine}
+use Rattle.session_journal.specs.declared.steps.step.Step.{Step}
+use Rattle.session_journal.specs.declared.steps.step.Step.TheVariants.{Load, Snapshot}
+use Rattle.session_journal.specs.Records.{given_by_steps}
+use Rattle.session_journal.specs.SessionJournalKept.{with_left}
+use Rattle.stream_edits.specs.Snapshots.{SnapshotValue}
 use Rattle.serve_calls.specs.Sessions.{Asks}
 
 module _ {K : Type 0} (stands : K → List Step → Type 0) where

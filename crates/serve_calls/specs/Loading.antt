@@ -8,7 +8,7 @@ use Rattle.stream_edits.specs.declared.receipts.Last.{Last}
 use Rattle.stream_edits.specs.declared.receipts.Receipt.{Receipt}
 use Rattle.stream_edits.specs.declared.refusals.EditRefused.TheVariants as refusals
 use Rattle.stream_edits.specs.Streams.{last_of, place_after}
-use Rattle.edit_engine.specs.Machines.{Machine}
+use Rattle.stand_in_session.specs.Machines.{Machine}
 use Rattle.serve_requests.specs.declared.call.Loaded.{Loaded}
 use Rattle.serve_requests.specs.declared.call.Loaded.TheVariants as loaded
 use Rattle.serve_requests.specs.declared.failure.Failure.{Failure}
@@ -20,7 +20,7 @@ use Rattle.serve_answers.specs.declared.left_out_answers.LeftOutAnswer.{LeftOutA
 use Rattle.serve_calls.specs.declared.loading.Inserted.{Inserted}
 use Rattle.serve_calls.specs.declared.preparing.Prepared.{Prepared}
 use Rattle.serve_calls.specs.declared.server.Server.{Server}
-use Rattle.undo_redo.specs.declared.prepared.Step.{Step}
+use Rattle.edit_history.specs.declared.undo_redo.prepared.Step.{Step}
 use Rattle.serve_calls.specs.Editing.{MakesEditIn}
 use Rattle.session_journal.specs.declared.unkept.Unkept.{Unkept}
 use Rattle.serve_calls.specs.declared.unmade.EditFault.{EditFault}

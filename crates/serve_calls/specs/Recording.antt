@@ -3,11 +3,11 @@ use Rattle.std.specs.Prelude.{◌≡◌, ◌⊎◌, ℕ, List, [], ◌∷◌, �
 use Rattle.access_unit.specs.Rooms.{IsStream}
 use Rattle.stream_edits.specs.declared.edits.Edit.{Edit}
 use Rattle.stream_edits.specs.Streams.{last_of, place_after}
-use Rattle.edit_engine.specs.Machines.{Machine}
-use Rattle.journal_steps.specs.declared.step.Step.{Step}
-use Rattle.journal_steps.specs.declared.step.Step.TheVariants.{Edits, Load}
-use Rattle.journal_steps.specs.Records.{given_by_steps}
-use Rattle.session_journal.specs.Kept.{with_left}
+use Rattle.stand_in_session.specs.Machines.{Machine}
+use Rattle.session_journal.specs.declared.steps.step.Step.{Step}
+use Rattle.session_journal.specs.declared.steps.step.Step.TheVariants.{Edits, Load}
+use Rattle.session_journal.specs.Records.{given_by_steps}
+use Rattle.session_journal.specs.SessionJournalKept.{with_left}
 use Rattle.serve_requests.specs.declared.failure.Failure.{Failure}
 use Rattle.serve_requests.specs.declared.failure.Failure.TheVariants.{Refused}
 use Rattle.serve_requests.specs.declared.failure.Refusal.TheVariants as refusal

@@ -2,13 +2,13 @@
 use Rattle.std.specs.Prelude.{◌⊎◌, ℕ, Bool, List, [], ◌∷◌, Option, None, Some, Result, Ok, Err, IsErr}
 use Rattle.stream_edits.specs.declared.edits.Edit.{Edit}
 use Rattle.stream_edits.specs.Edits.{Register}
-use Rattle.stream_snapshot.specs.Snapshots.{IsOf, SnapshotValue}
-use Rattle.undo_redo.specs.declared.undo_redo.UndoRedo.{UndoRedo}
-use Rattle.undo_redo.specs.declared.unit_texts.UnitTexts.{UnitTexts}
-use Rattle.undo_redo.specs.Kept.{IsKept}
-use Rattle.edit_engine.specs.Machines.{Machine}
-use Rattle.journal_steps.specs.declared.step.Step.{Step}
-use Rattle.journal_steps.specs.declared.step.Step.TheVariants.{Edits, Snapshot}
+use Rattle.stream_edits.specs.Snapshots.{IsOf, SnapshotValue}
+use Rattle.edit_history.specs.declared.undo_redo.undo_redo.UndoRedo.{UndoRedo}
+use Rattle.edit_history.specs.declared.undo_redo.unit_texts.UnitTexts.{UnitTexts}
+use Rattle.edit_history.specs.Kept.{IsKept}
+use Rattle.stand_in_session.specs.Machines.{Machine}
+use Rattle.session_journal.specs.declared.steps.step.Step.{Step}
+use Rattle.session_journal.specs.declared.steps.step.Step.TheVariants.{Edits, Snapshot}
 use Rattle.serve_requests.specs.declared.call.Call.{Call}
 use Rattle.serve_requests.specs.declared.call.Call.TheVariants as call
 use Rattle.serve_requests.specs.declared.call.Loaded.{Loaded}

@@ -2,10 +2,10 @@
 use Rattle.std.specs.Prelude.{◌≡◌, ◌+◌, ◌<◌, List, [], ◌∷◌, ◌++◌, length, take, Result, Ok, Err}
 use Rattle.edit_history.specs.Texts.{Texts}
 use Rattle.stream_edits.specs.Edits.{Register}
-use Rattle.undo_redo.specs.declared.prepared.Step.{Step}
-use Rattle.undo_redo.specs.declared.undo_redo.UndoRedo.{UndoRedo}
-use Rattle.undo_redo.specs.States.{IsAsBefore, IsUnderWay, IsUndoRedo}
-use Rattle.edit_engine.specs.Machines.{Machine}
+use Rattle.edit_history.specs.declared.undo_redo.prepared.Step.{Step}
+use Rattle.edit_history.specs.declared.undo_redo.undo_redo.UndoRedo.{UndoRedo}
+use Rattle.edit_history.specs.States.{IsAsBefore, IsUnderWay, IsUndoRedo}
+use Rattle.stand_in_session.specs.Machines.{Machine}
 use Rattle.serve_calls.specs.declared.server.Server.{Server}
 use Rattle.serve_calls.specs.Sessions.{Stays}
 

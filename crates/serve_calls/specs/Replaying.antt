@@ -10,13 +10,13 @@ use Rattle.stream_edits.specs.declared.refusals.EditRefused.TheVariants as refus
 use Rattle.stream_edits.specs.Edits.{Register}
 use Rattle.stream_edits.specs.GroupRefusals.{IsGroupRefused}
 use Rattle.stream_edits.specs.Refusals.{IsRefused}
-use Rattle.edit_engine.specs.Machines.{Machine}
-use Rattle.journal_steps.specs.declared.step.Step.{Step as Recorded}
-use Rattle.journal_steps.specs.declared.step.Step.TheVariants.{Edits, Load, Snapshot}
+use Rattle.stand_in_session.specs.Machines.{Machine}
+use Rattle.session_journal.specs.declared.steps.step.Step.{Step as Recorded}
+use Rattle.session_journal.specs.declared.steps.step.Step.TheVariants.{Edits, Load, Snapshot}
 use Rattle.stream_session.specs.Machines.{IsBegun}
-use Rattle.stream_snapshot.specs.Snapshots.{IsOf, SnapshotValue}
-use Rattle.undo_redo.specs.declared.prepared.Step.{Step}
-use Rattle.undo_redo.specs.States.{IsUndoRedo}
+use Rattle.stream_edits.specs.Snapshots.{IsOf, SnapshotValue}
+use Rattle.edit_history.specs.declared.undo_redo.prepared.Step.{Step}
+use Rattle.edit_history.specs.States.{IsUndoRedo}
 use Rattle.serve_calls.specs.declared.server.Server.{Server}
 use Rattle.serve_calls.specs.declared.unmade.EditFault.TheVariants as edit_fault
 use Rattle.serve_calls.specs.declared.unmade.GroupFault.TheVariants as group_fault

@@ -1,6 +1,6 @@
 -- What a request is answered.
 use Rattle.std.specs.Prelude.{◌≡◌, ℕ, Bool, true, false, List, Option, None, Some, Result, Ok, Err}
-use Rattle.edit_engine.specs.Machines.{Machine}
+use Rattle.stand_in_session.specs.Machines.{Machine}
 use Rattle.serve_requests.specs.declared.call.Call.{Call}
 use Rattle.serve_requests.specs.declared.call.Call.TheVariants as call
 use Rattle.serve_requests.specs.declared.failure.Failure.{Failure}

@@ -1,9 +1,9 @@
 -- A server that begins anew.
 use Rattle.std.specs.Prelude.{◌≡◌, ◌⊎◌, List, [], ◌∷◌, Result, Ok, Err}
 use Rattle.stream_edits.specs.Edits.{no_units}
-use Rattle.edit_engine.specs.Machines.{Machine}
+use Rattle.stand_in_session.specs.Machines.{Machine}
 use Rattle.stream_session.specs.Machines.{IsEmpty}
-use Rattle.undo_redo.specs.States.{IsUndoRedo}
+use Rattle.edit_history.specs.States.{IsUndoRedo}
 use Rattle.session_journal.specs.declared.unkept.Unkept.{Unkept}
 use Rattle.serve_requests.specs.declared.failure.Failure.{Failure}
 use Rattle.serve_answers.specs.declared.answer.Answer.{Answer}

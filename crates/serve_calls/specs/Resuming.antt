@@ -1,10 +1,10 @@
 -- A server that goes on from the steps of a journal.
 use Rattle.std.specs.Prelude.{◌≡◌, ◌⊎◌, List, [], ◌∷◌, ◌++◌, Some}
-use Rattle.edit_engine.specs.Machines.{Machine}
-use Rattle.journal_steps.specs.declared.step.Step.{Step as Recorded}
+use Rattle.stand_in_session.specs.Machines.{Machine}
+use Rattle.session_journal.specs.declared.steps.step.Step.{Step as Recorded}
 use Rattle.stream_edits.specs.Edits.{Register}
 use Rattle.edit_history.specs.Texts.{Texts}
-use Rattle.undo_redo.specs.States.{IsUndoRedo}
+use Rattle.edit_history.specs.States.{IsUndoRedo}
 use Rattle.serve_calls.specs.declared.journaled.Journaled.{Journaled}
 use Rattle.serve_calls.specs.declared.server.Server.{Server}
 use Rattle.serve_calls.specs.Replaying.{RefusesOne, ReplaysAll, ReplaysOne}

@@ -1,8 +1,8 @@
 -- The stream that a server saves as a file, and the result.
 use Rattle.std.specs.Prelude.{◌≡◌, ℕ, ◌-◌, ◌^◌, List, length, min, sum_by, Option, Result, Ok, Err}
-use Rattle.file_saving.specs.declared.unsaved.Unsaved.{Unsaved}
-use Rattle.file_saving.specs.declared.unsaved.Unsaved.TheVariants.{Unwritten, Memory}
-use Rattle.file_saving.specs.Saved.{Saves, joined}
+use Rattle.console_io.specs.declared.file_saving.unsaved.Unsaved.{Unsaved}
+use Rattle.console_io.specs.declared.file_saving.unsaved.Unsaved.TheVariants.{Unwritten, Memory}
+use Rattle.console_io.specs.Saved.{Saves, joined}
 use Rattle.serve_requests.specs.declared.failure.Failure.{Failure}
 use Rattle.serve_requests.specs.declared.failure.Failure.TheVariants.{Refused}
 use Rattle.serve_requests.specs.declared.failure.Refusal.TheVariants as refusal

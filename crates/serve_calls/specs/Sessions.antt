@@ -5,7 +5,7 @@ use Rattle.std.specs.Prelude.{Result, Ok, Err}
 use Rattle.std.specs.declared.alloc.AllocError.{AllocError}
 use Rattle.stream_edits.specs.Edits.{Replays}
 use Rattle.stream_edits.specs.Journals.{edits_of}
-use Rattle.edit_engine.specs.Machines.{Machine}
+use Rattle.stand_in_session.specs.Machines.{Machine}
 use Rattle.stream_session.specs.Altered.{with_mark}
 use Rattle.stream_session.specs.Machines.{uncached}
 use Rattle.session_journal.specs.declared.unkept.Unkept.{Unkept}

@@ -2,10 +2,10 @@
 use Rattle.std.specs.Prelude.{◌≡◌, ◌⊎◌, ℕ, Option, None, Result, Ok, Err}
 use Rattle.picture_store.specs.declared.refusals.TakeRefused.{TakeRefused}
 use Rattle.picture_store.specs.declared.refusals.TakeRefused.TheVariants.{JobsSpent, Memory}
-use Rattle.edit_engine.specs.declared.replies.Reply.{Reply}
-use Rattle.edit_engine.specs.declared.replies.Reply.TheVariants as replies
-use Rattle.edit_engine.specs.declared.replies.TakenJob.{TakenJob}
-use Rattle.edit_engine.specs.Machines.{Machine}
+use Rattle.stand_in_session.specs.declared.replies.Reply.{Reply}
+use Rattle.stand_in_session.specs.declared.replies.Reply.TheVariants as replies
+use Rattle.stand_in_session.specs.declared.replies.TakenJob.{TakenJob}
+use Rattle.stand_in_session.specs.Machines.{Machine}
 use Rattle.serve_requests.specs.declared.failure.Failure.{Failure}
 use Rattle.serve_requests.specs.declared.failure.Failure.TheVariants.{Refused}
 use Rattle.serve_requests.specs.declared.failure.Refusal.TheVariants as refusal

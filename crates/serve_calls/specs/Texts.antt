@@ -3,12 +3,12 @@ use Rattle.std.specs.Prelude.{ℕ, List, map, take, drop, Option, None, Some, Re
 use Rattle.base64.specs.Engines.{standard}
 use Rattle.base64.specs.GeneralPurpose.{encode_of}
 use Rattle.edit_script.specs.Words.{id_of}
-use Rattle.edit_engine.specs.Machines.{Machine}
+use Rattle.stand_in_session.specs.Machines.{Machine}
 use Rattle.stream_edits.specs.declared.edits.Edit.{Edit}
 use Rattle.stream_edits.specs.Edits.{Register}
-use Rattle.undo_redo.specs.declared.undo_redo.UndoRedo.{UndoRedo}
-use Rattle.undo_redo.specs.Kept.{IsKept}
-use Rattle.undo_redo.specs.Snapshots.{IsTextOf}
+use Rattle.edit_history.specs.declared.undo_redo.undo_redo.UndoRedo.{UndoRedo}
+use Rattle.edit_history.specs.Kept.{IsKept}
+use Rattle.edit_history.specs.Snapshots.{IsTextOf}
 use Rattle.serve_requests.specs.declared.failure.Failure.{Failure}
 use Rattle.serve_requests.specs.declared.failure.Failure.TheVariants.{Refused}
 use Rattle.serve_requests.specs.declared.failure.Refusal.TheVariants as refusal

@@ -11,15 +11,15 @@ use Rattle.stream_edits.specs.declared.refusals.EditRefused.TheVariants as refus
 use Rattle.stream_edits.specs.Edits.{Register}
 use Rattle.stream_edits.specs.GroupRefusals.{IsGroupRefused, IsUntaken}
 use Rattle.access_unit.specs.Rooms.{most_units}
-use Rattle.edit_engine.specs.Machines.{Machine}
+use Rattle.stand_in_session.specs.Machines.{Machine}
 use Rattle.serve_requests.specs.declared.failure.Failure.{Failure}
 use Rattle.serve_requests.specs.declared.failure.Failure.TheVariants.{Refused}
 use Rattle.serve_requests.specs.declared.failure.Refusal.{Refusal}
 use Rattle.serve_requests.specs.declared.failure.Refusal.TheVariants as refusal
 use Rattle.serve_answers.specs.declared.answer.Answer.{Answer}
-use Rattle.undo_redo.specs.declared.undo_redo.UndoRedo.{UndoRedo}
-use Rattle.undo_redo.specs.declared.unit_texts.UnitTexts.{UnitTexts}
-use Rattle.undo_redo.specs.States.{IsUndoRedo, TakesTo}
+use Rattle.edit_history.specs.declared.undo_redo.undo_redo.UndoRedo.{UndoRedo}
+use Rattle.edit_history.specs.declared.undo_redo.unit_texts.UnitTexts.{UnitTexts}
+use Rattle.edit_history.specs.States.{IsUndoRedo, TakesTo}
 use Rattle.serve_calls.specs.declared.server.Server.{Server}
 use Rattle.serve_calls.specs.Editing.{sums_after_group}
 use Rattle.serve_calls.specs.Sessions.{Steps}

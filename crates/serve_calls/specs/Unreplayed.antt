@@ -12,8 +12,8 @@ use Rattle.serve_calls.specs.declared.unmade.EditFault.{EditFault}
 use Rattle.serve_calls.specs.declared.unmade.EditFault.TheVariants as edit_fault
 use Rattle.serve_calls.specs.declared.unmade.GroupFault.{GroupFault}
 use Rattle.serve_calls.specs.declared.unmade.GroupFault.TheVariants as group_fault
-use Rattle.stream_snapshot.specs.declared.read_snapshot.SnapshotRefused.{SnapshotRefused}
-use Rattle.stream_snapshot.specs.declared.read_snapshot.SnapshotRefused.TheVariants as snapshots
+use Rattle.stream_edits.specs.declared.snapshots.read_snapshot.SnapshotRefused.{SnapshotRefused}
+use Rattle.stream_edits.specs.declared.snapshots.read_snapshot.SnapshotRefused.TheVariants as snapshots
 
 -- an edit isn't made again that is refused so
 abbrev pub unreplayed_edit : EditRefused → Unreplayed

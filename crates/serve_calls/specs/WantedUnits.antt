@@ -1,6 +1,6 @@
 -- The units that are wanted.
 use Rattle.std.specs.Prelude.{◌≡◌, ◌≢◌, ℕ, Bool, true, List, [], ◌∷◌, ◌++◌, Contains, All, AllPairs, None, Some}
-use Rattle.edit_engine.specs.Showing.{Shown}
+use Rattle.stand_in_session.specs.Showing.{Shown}
 use Rattle.serve_answers.specs.Replies.{state_of}
 use Rattle.serve_calls.specs.declared.wanted_units.WantedUnit.{WantedUnit}
 

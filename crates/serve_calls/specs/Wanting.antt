@@ -3,9 +3,9 @@ use Rattle.std.specs.Prelude.{◌≡◌, ◌⊎◌, ◌<◌, ◌≤◌, ◌++◌
 use Rattle.hex.specs.Hex.{encode_lower}
 use Rattle.stand_in_device.specs.declared.picture.Picture.{Picture}
 use Rattle.edit_script.specs.Words.{id_of}
-use Rattle.edit_engine.specs.Showing.{Shown, Shows}
+use Rattle.stand_in_session.specs.Showing.{Shown, Shows}
 use Rattle.stream_session.specs.declared.showing.Shown.TheVariants as shown
-use Rattle.edit_engine.specs.Machines.{Machine}
+use Rattle.stand_in_session.specs.Machines.{Machine}
 use Rattle.serve_requests.specs.declared.failure.Failure.{Failure}
 use Rattle.serve_requests.specs.declared.failure.Failure.TheVariants.{Refused}
 use Rattle.serve_requests.specs.declared.failure.Refusal.TheVariants as refusal

@@ -1,7 +1,7 @@
 //! A session alone, whose jobs are taken and landed by calls.
 
 ghost use Rattle.std.specs.Prelude.{◌≡◌, ◌≤◌, ◌↔◌, Err, IfOk, IfSome, IsErrOf, MatchOption, MatchResult, None, Some, false, true};
-ghost use Rattle.picture_cache.specs.Bounded.{most_room};
+ghost use Rattle.held_pictures.specs.Bounded.{most_room};
 ghost use Rattle.stand_in_device.specs.Inputs.{InputValue};
 ghost use Rattle.stream_session.specs.Machines.{IsEmpty, empty};
 ghost use Rattle.stream_session.specs.Taken.{input_of};
@@ -14,17 +14,17 @@ ghost use Rattle.serve_calls.specs.Taking.{TakesReply, taken_in, taken_of};
 use crate::backend::{Backend, LendsSession};
 use crate::failing::OUT_OF_MEMORY;
 use crate::unmade::{EditFault, GroupFault};
-use edit_engine::{
-    Command, Config, ConfigFault, Dropping, GroupReceipt, ReadEdit, ReadGroup, Receipt, Reply,
-    Runner, Session, TakeRefused, TakenJob,
-};
+use h264_types::pictures::AuId;
 use picture_keys::HashedUnit;
-use pictures::AuId;
 use serve_answers::{Answer, JobAnswer, of_give_back, of_land};
 use serve_requests::{Failure, Refusal};
 use session_journal::Unkept;
+use stand_in_session::{
+    Command, Config, ConfigFault, Dropping, GroupReceipt, ReadEdit, ReadGroup, Receipt, Reply,
+    Runner, Session, TakeRefused, TakenJob,
+};
 use std::alloc::{AllocError, Global};
-use stream_snapshot::{ReadSnapshot, Snapshot};
+use stream_edits::snapshots::{ReadSnapshot, Snapshot};
 
 /// A session alone.
 #[derive(Drop)]

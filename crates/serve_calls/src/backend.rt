@@ -2,12 +2,12 @@
 
 ghost use Rattle.std.specs.Prelude.{◌≡◌, ◌∷◌, ◌≤◌, ℕ, List, [], true, false, Err, IfOk, length};
 ghost use Rattle.std.specs.Fn.{FnOnceReturnsAt};
-ghost use Rattle.edit_engine.specs.Machines.{Machine};
+ghost use Rattle.stand_in_session.specs.Machines.{Machine};
 ghost use Rattle.stream_edits.specs.declared.edits.Edit.{Edit as EditValue};
-ghost use Rattle.journal_steps.specs.declared.step.Step.{Step as StepValue};
-ghost use Rattle.journal_steps.specs.declared.step.Step.TheVariants.{Edits, Snapshot as SnapshotStep};
+ghost use Rattle.session_journal.specs.declared.steps.step.Step.{Step as StepValue};
+ghost use Rattle.session_journal.specs.declared.steps.step.Step.TheVariants.{Edits, Snapshot as SnapshotStep};
 ghost use Rattle.stream_session.specs.Machines.{IsBegun, IsEmpty};
-ghost use Rattle.edit_engine.specs.Needing.{AnswersDrop};
+ghost use Rattle.stand_in_session.specs.Needing.{AnswersDrop};
 ghost use Rattle.serve_calls.specs.Offering.{Offered};
 ghost use Rattle.serve_calls.specs.Jobs.{GivesBackAs, LandsAs, TakesAs};
 ghost use Rattle.serve_calls.specs.Recording.{BeginsLoad, CountsOn, EndsLoad, KeepsRecords, RecordsIf, RecordsOnly};
@@ -15,14 +15,14 @@ ghost use Rattle.serve_calls.specs.Sessions.{Asks, Clears, Marks, Stays, Steps};
 ghost use Rattle.serve_calls.specs.Unmade.{MakesTogether, MakesOne};
 
 use crate::unmade::{EditFault, GroupFault};
-use edit_engine::{Dropping, GroupReceipt, ReadEdit, ReadGroup, Receipt, Session};
+use h264_types::pictures::AuId;
 use picture_keys::HashedUnit;
-use pictures::AuId;
 use serve_answers::Answer;
 use serve_requests::Failure;
 use session_journal::Unkept;
+use stand_in_session::{Dropping, GroupReceipt, ReadEdit, ReadGroup, Receipt, Session};
 use std::alloc::{AllocError, Global};
-use stream_snapshot::{ReadSnapshot, Snapshot};
+use stream_edits::snapshots::{ReadSnapshot, Snapshot};
 
 /// One who lends a session to be asked.
 pub trait LendsSession {

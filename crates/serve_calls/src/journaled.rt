@@ -1,7 +1,7 @@
 //! A session whose edits are recorded before they are made.
 
 ghost use Rattle.std.specs.Prelude.{◌≡◌, ◌+◌, ◌-◌, ◌^◌, ◌∷◌, ℕ, [], None, Some, IfOk, IsOk, is_some, min};
-ghost use Rattle.journal_steps.specs.declared.step.Step.TheVariants.{Edits};
+ghost use Rattle.session_journal.specs.declared.steps.step.Step.TheVariants.{Edits};
 ghost use Rattle.stream_edits.specs.Streams.{last_of, place_after};
 ghost use Rattle.serve_calls.specs.Journaled.{IsLoadKeptAt, IsRecorded, IsTakenOff, insertions_from};
 ghost use Rattle.serve_calls.specs.Offering.{offering};
@@ -10,15 +10,15 @@ ghost use Rattle.serve_calls.specs.Sessions.{Asks};
 
 use crate::backend::{Backend, LendsSession};
 use crate::unmade::{EditFault, GroupFault};
-use edit_engine::{Dropping, GroupReceipt, ReadEdit, ReadGroup, Receipt, Session};
+use h264_types::pictures::AuId;
 use picture_keys::HashedUnit;
-use pictures::AuId;
 use serve_answers::Answer;
 use serve_requests::Failure;
 use session_journal::{Records, Unkept};
+use stand_in_session::{Dropping, GroupReceipt, ReadEdit, ReadGroup, Receipt, Session};
 use std::alloc::{AllocError, Global};
+use stream_edits::snapshots::{ReadSnapshot, Snapshot};
 use stream_edits::{Edit, Place};
-use stream_snapshot::{ReadSnapshot, Snapshot};
 
 /// A session with a journal, or without one.
 #[derive(Drop)]

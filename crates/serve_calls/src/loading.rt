@@ -5,7 +5,7 @@ ghost use Rattle.std.specs.Vec.{vec_capacity};
 ghost use Rattle.serve_calls.specs.Failing.{out_of_memory};
 ghost use Rattle.edit_history.specs.Histories.{HasRoom as HasStepRoom};
 ghost use Rattle.stream_edits.specs.declared.edits.Edit.{Edit as EditValue};
-ghost use Rattle.journal_steps.specs.declared.step.Step.{Step as StepValue};
+ghost use Rattle.session_journal.specs.declared.steps.step.Step.{Step as StepValue};
 ghost use Rattle.serve_calls.specs.Loading.{InsertsAll, InsertsBegun, InsertsLast, InsertsStep, IsLast, IsTextOf, IsTextless, LoadsAs, LoadsStream, load_answer, loaded_answer, none_inserted, uninserted, with_unit};
 ghost use Rattle.serve_calls.specs.Preparing.{prepared};
 ghost use Rattle.serve_calls.specs.Recording.{AreInserted, CountsOn, RecordsInserted, RecordsStream};
@@ -19,14 +19,14 @@ use crate::unmade::{EditFault, unkept_failure};
 use access_unit::{MOST_UNITS, ReadFault, read_units};
 use bytes::Bytes;
 use console_io::{InputFault, Source};
-use edit_engine::{Last, ReadEdit, Receipt};
+use edit_history::undo_redo::Step;
+use h264_types::pictures::AuId;
 use picture_keys::{HashedUnit, hash_units};
-use pictures::AuId;
 use serve_answers::{Answer, LeftOutAnswer, Stretch};
 use serve_requests::{Failure, Listed, Loaded, Refusal};
+use stand_in_session::{Last, ReadEdit, Receipt};
 use std::alloc::Global;
 use std::thread::Threads;
-use undo_redo::Step;
 
 /// How many units were inserted, from which place on, and the ids of the first and the last of them.
 #[derive(Clone, Copy, Debug, PartialEq, Eq)]

@@ -2,7 +2,7 @@
 
 ghost use Rattle.std.specs.Prelude.{◌≡◌, ◌≢◌, ◌+◌, ◌≤◌, ◌↔◌, ℕ, AllPairs, IfOk, IsTrue, MatchOption, drop, filter_map, length, take};
 ghost use Rattle.std.specs.List.{zip};
-ghost use Rattle.doubts.specs.InDoubt.{AreDoubts};
+ghost use Rattle.unit_outcomes.specs.InDoubt.{AreDoubts};
 ghost use Rattle.stream_session.specs.Altered.{IsAltered};
 ghost use Rattle.stream_session.specs.Doubting.{seen_in};
 ghost use Rattle.serve_calls.specs.Answering.{AreToldFrom, AreUnitsIn, HasPosition, Introduces, IsAt, IsFound, IsNoneAmong, TellsFound, TellsShown, TellsStats, TellsUnits, stats_of, unit_in};
@@ -12,11 +12,11 @@ use crate::failing::OUT_OF_MEMORY;
 use crate::lists::push_some;
 use crate::server::Server;
 use crate::sums::Sums;
-use edit_engine::{Doubt, NoSuchUnit, Session};
 use edit_script::id_of_number;
-use pictures::AuId;
+use h264_types::pictures::AuId;
 use serve_answers::{Answer, Found, Introduction, Stats, Told, UnitAnswer, of_show};
 use serve_requests::{Failure, Listed};
+use stand_in_session::{Doubt, NoSuchUnit, Session};
 use std::alloc::{AllocError, Global};
 
 /// How far a unit may stand before the place of its position, where it is looked for first.

@@ -7,11 +7,11 @@ ghost use Rattle.edit_history.specs.Texts.{Texts};
 ghost use Rattle.stream_edits.specs.declared.edits.Edit.{Edit as EditValue};
 ghost use Rattle.stream_edits.specs.Edits.{Makes, Register};
 ghost use Rattle.stream_edits.specs.Groups.{MakesAll};
-ghost use Rattle.undo_redo.specs.Following.{AreRefusedOf, Follows, FollowsAll, HasRoom, IsRefusedOf};
-ghost use Rattle.undo_redo.specs.States.{IsUnderWay, IsUndoRedo};
+ghost use Rattle.edit_history.specs.Following.{AreRefusedOf, Follows, FollowsAll, HasRoom, IsRefusedOf};
+ghost use Rattle.edit_history.specs.States.{IsUnderWay, IsUndoRedo};
 ghost use Rattle.serve_calls.specs.Remembering.{AddsStep, GoesOn};
 
-use undo_redo::{PreparedEdit, PreparedGroup, Step, UndoRedo};
+use edit_history::undo_redo::{PreparedEdit, PreparedGroup, Step, UndoRedo};
 
 /// Takes in that an edit of a step was accepted, for which this was prepared. Nothing is prepared
 /// for an edit that the stream refuses.

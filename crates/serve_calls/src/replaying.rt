@@ -2,7 +2,7 @@
 
 ghost use Rattle.std.specs.Prelude.{◌≡◌, ◌+◌, ◌≤◌, ◌<◌, [], ◌∷◌, Err, IfOk, IfSome, IsErr, IsOk, OnOk, vec_len};
 ghost use Rattle.std.specs.Vec.{vec_capacity};
-ghost use Rattle.journal_steps.specs.declared.step.Step.TheVariants.{Edits, Load};
+ghost use Rattle.session_journal.specs.declared.steps.step.Step.TheVariants.{Edits, Load};
 ghost use Rattle.serve_calls.specs.declared.replaying.Unreplayed.TheVariants.{Memory};
 ghost use Rattle.serve_calls.specs.Replaying.{BeginsFrom, MakesEach, MakesOneIn, RefusesEdits, RefusesOne, ReplaysAll, ReplaysEdits, ReplaysOne};
 ghost use Rattle.serve_calls.specs.Resuming.{ReplaysOnto, ReplaysSteps, Resumes};
@@ -12,13 +12,13 @@ use crate::backend::Backend;
 use crate::journaled::Journaled;
 use crate::server::Server;
 use crate::unmade::{EditFault, GroupFault};
-use edit_engine::{EditRefused, GroupReceipt, GroupRefused, ReadGroup, Receipt};
-use journal_steps::Step;
+use edit_history::undo_redo::{Step as Change, UndoRedo};
 use session_journal::Records;
+use session_journal::steps::Step;
+use stand_in_session::{EditRefused, GroupReceipt, GroupRefused, ReadGroup, Receipt};
 use std::alloc::AllocError;
 use stream_edits::Edit;
-use stream_snapshot::{Snapshot, SnapshotRefused};
-use undo_redo::{Step as Change, UndoRedo};
+use stream_edits::snapshots::{Snapshot, SnapshotRefused};
 
 /// Why a recorded step isn't made again.
 #[derive(Clone, Copy, Debug, PartialEq, Eq)]

@@ -8,7 +8,7 @@ ghost use Rattle.serve_calls.specs.Requests.{IsServed, IsServedBy, IsServedIf, i
 use crate::backend::Backend;
 use crate::server::Server;
 use crate::wanted_units::WantedUnit;
-use file_saving::Saver;
+use console_io::file_saving::Saver;
 use serde_json::Value;
 use serve_answers::Answer;
 use serve_requests::{Call, Failure, Message, Request};

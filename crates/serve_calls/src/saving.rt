@@ -7,7 +7,7 @@ use crate::backend::Backend;
 use crate::failing::OUT_OF_MEMORY;
 use crate::server::Server;
 use bytes::Bytes;
-use file_saving::{Saver, Unsaved};
+use console_io::file_saving::{Saver, Unsaved};
 use serve_answers::Answer;
 use serve_requests::{Failure, Name, Refusal};
 

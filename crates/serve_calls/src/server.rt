@@ -2,10 +2,10 @@
 
 ghost use Rattle.std.specs.Prelude.{◌≡◌, ◌+◌, ◌<◌, ◌≤◌, [], ◌∷◌, IfSome, None, vec_len};
 ghost use Rattle.std.specs.Vec.{vec_capacity};
-ghost use Rattle.journal_steps.specs.declared.step.Step.TheVariants.{Edits};
+ghost use Rattle.session_journal.specs.declared.steps.step.Step.TheVariants.{Edits};
 ghost use Rattle.stream_edits.specs.Edits.{no_units};
-ghost use Rattle.undo_redo.specs.Following.{Follows, HasRoom, IsRefusedOf};
-ghost use Rattle.undo_redo.specs.States.{IsUndoRedo};
+ghost use Rattle.edit_history.specs.Following.{Follows, HasRoom, IsRefusedOf};
+ghost use Rattle.edit_history.specs.States.{IsUndoRedo};
 ghost use Rattle.serve_calls.specs.Editing.{DropsAs, EditsAs, GroupsAs, MakesEdit, MakesEditIn, MakesGroup, MakesStep, MarksAs, mark_answer};
 ghost use Rattle.serve_calls.specs.Recording.{CountsOn, KeepsRecords, RecordsIf, RecordsOnly};
 ghost use Rattle.serve_calls.specs.Resetting.{ResetsAs};
@@ -17,13 +17,13 @@ use crate::remembering::{take_in, take_in_group};
 use crate::sums::{Sums, bytes_of, bytes_of_edit};
 use crate::unmade::{EditFault, GroupFault, of_group_made, of_made, unkept_failure};
 use crate::wanted_units::WantedUnit;
-use edit_engine::{EditRefused, GroupReceipt, GroupRefused, ReadEdit, ReadGroup, Receipt};
+use edit_history::undo_redo::{PreparedEdit, Step, UndoRedo};
 use edit_script::id_of_number;
 use serve_answers::{Answer, Word, of_drop, of_edit, of_group};
 use serve_requests::{Failure, Listed};
+use stand_in_session::{EditRefused, GroupReceipt, GroupRefused, ReadEdit, ReadGroup, Receipt};
 use std::alloc::{AllocError, Global};
 use stream_edits::Edit;
-use undo_redo::{PreparedEdit, Step, UndoRedo};
 
 /// A server: what keeps its session, the files that are loaded, what it adds up, and what can be
 /// undone and redone.

@@ -9,10 +9,10 @@ use crate::backend::Backend;
 use crate::failing::OUT_OF_MEMORY;
 use crate::server::Server;
 use bytes::Bytes;
-use edit_engine::Session;
 use edit_script::id_of_number;
 use serve_answers::{Answer, Digits, EntryAnswer};
 use serve_requests::{Failure, Listed, Refusal};
+use stand_in_session::Session;
 use std::alloc::{AllocError, Global};
 use stream_edits::JournalEntry;
 

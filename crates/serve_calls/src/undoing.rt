@@ -1,7 +1,7 @@
 //! `undo` and `redo`.
 
 ghost use Rattle.std.specs.Prelude.{◌≡◌, ◌+◌, ◌-◌, ◌<◌, length, min};
-ghost use Rattle.journal_steps.specs.declared.step.Step.TheVariants.{Edits};
+ghost use Rattle.session_journal.specs.declared.steps.step.Step.TheVariants.{Edits};
 ghost use Rattle.serve_calls.specs.Recording.{RecordsIf, RecordsSome};
 ghost use Rattle.serve_calls.specs.RecordingCalls.{AreRedoing, AreUndoing};
 ghost use Rattle.serve_calls.specs.Undoing.{GoesBy, Redoes, RedoesAs, Undoes, UndoesAs, undo_failure};
@@ -9,11 +9,11 @@ ghost use Rattle.serve_calls.specs.Undoing.{GoesBy, Redoes, RedoesAs, Undoes, Un
 use crate::backend::Backend;
 use crate::server::Server;
 use crate::unmade::{GroupFault, of_group_made};
-use edit_engine::{GroupReceipt, ReadGroup};
+use edit_history::undo_redo::{NotUndone, UnitTexts};
 use serve_answers::Answer;
 use serve_requests::{Failure, Refusal};
+use stand_in_session::{GroupReceipt, ReadGroup};
 use stream_edits::{Edit, EditRefused};
-use undo_redo::{NotUndone, UnitTexts};
 
 impl<B: Backend, S> Server<B, S> {
     /// Takes the last step back that is done.

@@ -7,10 +7,10 @@ ghost use Rattle.serve_calls.specs.declared.unmade.GroupFault.TheVariants.{Refus
 ghost use Rattle.serve_calls.specs.Unmade.{group_made_answer, made_answer, unkept_failure};
 
 use crate::failing::OUT_OF_MEMORY;
-use edit_engine::{EditRefused, GroupReceipt, GroupRefused, Receipt};
 use serve_answers::{Answer, of_edit, of_group};
 use serve_requests::{Failure, Refusal};
 use session_journal::Unkept;
+use stand_in_session::{EditRefused, GroupReceipt, GroupRefused, Receipt};
 use std::alloc::AllocError;
 
 /// Why an edit isn't made.

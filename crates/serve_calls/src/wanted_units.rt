@@ -6,8 +6,8 @@ ghost use Rattle.stream_session.specs.declared.showing.Shown.TheVariants.{Ready}
 ghost use Rattle.stand_in_device.specs.declared.picture.Picture.{Picture};
 ghost use Rattle.serve_calls.specs.WantedUnits.{AddsOne, AreWanted, IsAmong, IsChanged};
 
-use edit_engine::{Picture, Shown};
 use serve_answers::{State, state_of};
+use stand_in_session::{Picture, Shown};
 use std::alloc::{AllocError, Global};
 
 /// A unit that is wanted, by its number.

@@ -12,11 +12,11 @@ use crate::failing::OUT_OF_MEMORY;
 use crate::lists::push_some;
 use crate::server::Server;
 use crate::wanted_units::{WantedUnit, wanted_units};
-use edit_engine::{Picture, Session, Shown};
 use edit_script::id_of_number;
-use pictures::AuId;
+use h264_types::pictures::AuId;
 use serve_answers::{Answer, Digits, Picked};
 use serve_requests::{Failure, Listed, Refusal};
+use stand_in_session::{Picture, Session, Shown};
 use std::alloc::{AllocError, Global};
 
 /// How many units are wanted at once at most.

@@ -10,7 +10,7 @@ use crate::fields::{FieldFault, bytes, number, value_at};
 use crate::listed::Listed;
 use crate::parameter::Parameter;
 use edit_script::id_of_number;
-use pictures::AuId;
+use h264_types::pictures::AuId;
 use serde_json::Value;
 use std::alloc::Global;
 use stream_edits::{Edit, Place};

@@ -6,17 +6,17 @@ ghost use Rattle.serve_calls.specs.Offering.{offering};
 
 use crate::line_writer::LineWriter;
 use decode_pool::{Desk, Seat, TooManyWanted, drop_picture};
-use edit_engine::{Config, Dropping, GroupReceipt, ReadEdit, ReadGroup, Receipt, Session};
+use h264_types::pictures::AuId;
 use picture_keys::HashedUnit;
-use pictures::AuId;
 use serve_answers::Answer;
 use serve_calls::{Backend, EditFault, GroupFault, LendsSession};
 use serve_requests::Failure;
 use session_journal::Unkept;
+use stand_in_session::{Config, Dropping, GroupReceipt, ReadEdit, ReadGroup, Receipt, Session};
 use std::alloc::{AllocError, Global};
 use std::io::Write;
 use std::sync::{Mutex, Wait};
-use stream_snapshot::{ReadSnapshot, Snapshot};
+use stream_edits::snapshots::{ReadSnapshot, Snapshot};
 
 /// What the threads of a server share.
 #[derive(Drop)]

@@ -1,11 +1,11 @@
 //! The writer of a server's lines.
 
 use crate::answers::Answers;
-use edit_engine::{Picture, Shown};
 use edit_script::id_of_number;
 use serde::Serialize;
 use serve_answers::{ChangedUnit, notification_text};
 use serve_calls::{LendsSession, WantedUnit, picked};
+use stand_in_session::{Picture, Shown};
 use std::alloc::{AllocError, Global};
 use std::io::Write;
 

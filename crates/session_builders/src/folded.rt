@@ -1,10 +1,10 @@
 //! A session's answers held against the plain fold over its units.
 
 use access_unit::Unit;
-use edit_engine::Session;
+use h264_types::pictures::AuId;
 use output_order::positions;
-use pictures::AuId;
 use request_core::scratch;
+use stand_in_session::Session;
 use std::alloc::{AllocError, Global};
 use unit_outcomes::Outcome;
 

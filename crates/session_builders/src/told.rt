@@ -4,8 +4,8 @@ ghost use Rattle.std.specs.Prelude.{◌≡◌, IfOk, map, true};
 ghost use Rattle.session_builders.specs.Edits.{edit_told};
 
 use bytes::Bytes;
-use edit_engine::{Edit, Place};
-use pictures::AuId;
+use h264_types::pictures::AuId;
+use stand_in_session::{Edit, Place};
 use std::alloc::{AllocError, Global};
 
 /// An edit as a row has it.

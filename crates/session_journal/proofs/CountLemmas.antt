@@ -3,8 +3,8 @@ use Rattle.std.proofs.Common.{◌≡◌, ℕ, zero, suc, ◌≤◌, List, [], �
 use Rattle.std.specs.List.{AllByRecursion}
 use Rattle.stream_edits.specs.declared.edits.Edit.{Edit}
 use Rattle.edit_journal.specs.declared.line.Step.{Step as Kept}
-use Rattle.journal_steps.specs.Kept.{given_after, given_after_edits, kept_of, kept_of_edits}
-use Rattle.journal_steps.proofs.KeptLemmas.{grows}
+use Rattle.session_journal.specs.Kept.{given_after, given_after_edits, kept_of, kept_of_edits}
+use Rattle.session_journal.proofs.KeptLemmas.{grows}
 
 -- as many rows as edits
 pub length-kept_of_edits : (given : ℕ) (edits : List Edit) → length (kept_of_edits given edits) ≡ length edits

@@ -10,13 +10,13 @@ use Rattle.edit_journal.specs.declared.line.Step.{Step as Kept}
 use Rattle.edit_journal.specs.Journals.{Lasts, Stands, Survives}
 use Rattle.edit_journal.specs.Lines.{Keeps, lines_of}
 use Rattle.edit_journal.proofs.RowLemmas.{rows_are}
-use Rattle.journal_steps.specs.declared.step.Step.{Step}
-use Rattle.journal_steps.specs.declared.step.Step.TheVariants.{Snapshot}
-use Rattle.journal_steps.specs.Kept.{kept_of_step}
-use Rattle.journal_steps.specs.Records.{given_by_steps, lines_of_steps}
-use Rattle.journal_steps.proofs.LineLemmas.{some_kept, steps_then}
-use Rattle.stream_snapshot.specs.Snapshots.{SnapshotValue}
-use Rattle.session_journal.specs.Kept.{LeavesOr, LeavesOrOnly}
+use Rattle.session_journal.specs.declared.steps.step.Step.{Step}
+use Rattle.session_journal.specs.declared.steps.step.Step.TheVariants.{Snapshot}
+use Rattle.session_journal.specs.Kept.{kept_of_step}
+use Rattle.session_journal.specs.Records.{given_by_steps, lines_of_steps}
+use Rattle.session_journal.proofs.LineLemmas.{some_kept, steps_then}
+use Rattle.stream_edits.specs.Snapshots.{SnapshotValue}
+use Rattle.session_journal.specs.SessionJournalKept.{LeavesOr, LeavesOrOnly}
 use Rattle.session_journal.specs.declared.session_journal.SessionJournal.{SessionJournal}
 use Rattle.session_journal.specs.Standing.{AreRecordOf, CrashLeaves, HasSteps, Standing}
 

@@ -9,13 +9,13 @@ use Rattle.edit_journal.specs.declared.line.Line.{Line}
 use Rattle.edit_journal.specs.declared.line.Step.{Step as Kept}
 use Rattle.edit_journal.specs.Journals.{Lasts, Stands}
 use Rattle.edit_journal.specs.Lines.{lines_of}
-use Rattle.journal_steps.specs.declared.step.Step.{Step}
-use Rattle.journal_steps.specs.declared.step.Step.TheVariants.{Edits, Load, Snapshot}
-use Rattle.journal_steps.specs.Kept.{given_after_edits, kept_of_load, kept_of_step}
-use Rattle.journal_steps.specs.Records.{given_by_steps, lines_of_steps}
-use Rattle.journal_steps.proofs.LineLemmas.{given_then, steps_then}
+use Rattle.session_journal.specs.declared.steps.step.Step.{Step}
+use Rattle.session_journal.specs.declared.steps.step.Step.TheVariants.{Edits, Load, Snapshot}
+use Rattle.session_journal.specs.Kept.{given_after_edits, kept_of_load, kept_of_step}
+use Rattle.session_journal.specs.Records.{given_by_steps, lines_of_steps}
+use Rattle.session_journal.proofs.LineLemmas.{given_then, steps_then}
 use Rattle.session_journal.specs.declared.session_journal.SessionJournal.{SessionJournal}
-use Rattle.session_journal.specs.Kept.{with_left}
+use Rattle.session_journal.specs.SessionJournalKept.{with_left}
 use Rattle.session_journal.specs.Standing.{HasSteps, Holds, IsEnd, LeavesNone, LeavesSome}
 use Rattle.session_journal.proofs.CountLemmas.{first_grow, take-kept_of_edits}
 use Rattle.session_journal.proofs.KeepLemmas.{WasOpen}

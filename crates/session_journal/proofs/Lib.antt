@@ -1,3 +1,8 @@
+pub mod KeptLemmas
+pub mod LineLemmas
+pub mod ReadLemmas
+pub mod StepLemmas
+pub mod UnitLemmas
 pub mod CountLemmas
 pub mod KeepLemmas
 pub mod LeaveLemmas

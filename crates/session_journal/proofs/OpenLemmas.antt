@@ -9,11 +9,11 @@ use Rattle.edit_journal.specs.declared.journal.Journal.{Journal}
 use Rattle.edit_journal.specs.declared.line.Line.{Line}
 use Rattle.edit_journal.specs.Journals.{Stands}
 use Rattle.edit_journal.specs.Lines.{edit_tree}
-use Rattle.journal_steps.specs.declared.step.Step.{Step}
-use Rattle.journal_steps.specs.declared.step.Step.TheVariants.{Edits, Load}
-use Rattle.journal_steps.specs.Kept.{IsStep, given_after_edits}
-use Rattle.journal_steps.specs.Records.{given_by_steps, lines_of_steps}
-use Rattle.journal_steps.proofs.LineLemmas.{given_then}
+use Rattle.session_journal.specs.declared.steps.step.Step.{Step}
+use Rattle.session_journal.specs.declared.steps.step.Step.TheVariants.{Edits, Load}
+use Rattle.session_journal.specs.Kept.{IsStep, given_after_edits}
+use Rattle.session_journal.specs.Records.{given_by_steps, lines_of_steps}
+use Rattle.session_journal.proofs.LineLemmas.{given_then}
 use Rattle.session_journal.specs.declared.session_journal.SessionJournal.{SessionJournal}
 use Rattle.session_journal.specs.Standing.{HasSteps, IsEnd, Standing}
 use Rattle.session_journal.proofs.CountLemmas.{all_last, length-kept_of_edits}

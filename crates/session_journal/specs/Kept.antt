@@ -1,65 +1,68 @@
--- What is recorded of a session's steps, and what a crash leaves.
-use Rattle.std.specs.Prelude.{◌≡◌, ◌⊎◌, ℕ, zero, suc, List, [], ◌∷◌, ◌++◌, take, drop, All, Bool, true, false}
-use Rattle.edit_journal.specs.declared.fault.JournalFault.{JournalFault}
-use Rattle.edit_journal.specs.declared.fault.JournalFault.TheVariants as fault
-use Rattle.journal_steps.specs.declared.step.Step.{Step}
-use Rattle.journal_steps.specs.declared.step.Step.TheVariants.{Edits, Load, Snapshot}
-use Rattle.journal_steps.specs.Records.{lines_of_steps}
-use Rattle.session_journal.specs.declared.unkept.Unkept.{Unkept}
-use Rattle.session_journal.specs.declared.unkept.Unkept.TheVariants.{Memory, Unwritten}
+-- What a record keeps of a step of a session.
+use Rattle.std.specs.Prelude.{◌≡◌, ℕ, ◌+◌, ◌<◌, List, [], ◌∷◌, ◌++◌, length, map, ⊤}
+use Rattle.stream_edits.specs.declared.edits.Edit.{Edit}
+use Rattle.stream_edits.specs.declared.edits.Edit.TheVariants.{Insert, Delete, Replace}
+use Rattle.stream_edits.specs.declared.edits.Place.TheVariants.{First, After}
+use Rattle.edit_journal.specs.declared.line.Kind.TheVariants.{InsertFirst, Insert as InsertKind, Delete as DeleteKind, Replace as ReplaceKind, Unit as UnitKind, Given as GivenKind, Load as LoadKind}
+use Rattle.edit_journal.specs.declared.line.Step.{Step as Kept}
+use Rattle.session_journal.specs.declared.steps.step.Step.{Step}
+use Rattle.session_journal.specs.declared.steps.step.Step.TheVariants.{Edits, Load, Snapshot}
 
--- why edits aren't recorded where the journal fails so
-abbrev pub unkept_of : JournalFault → Unkept
-unkept_of fault.NotAJournal = Unwritten
-unkept_of fault.Locked = Unwritten
-unkept_of fault.Damaged = Unwritten
-unkept_of fault.Full = Unwritten
-unkept_of fault.Failed = Unwritten
-unkept_of fault.Shut = Unwritten
-unkept_of fault.TooLarge = Unwritten
-unkept_of fault.Memory = Memory
+-- what is kept of an edit, where so many ids were given before it
+abbrev pub kept_of : ℕ → Edit → Kept
+kept_of given (Insert First text) = record { kind = InsertFirst; id = given + 1; named = 0; text = text }
+kept_of given (Insert (After id) text) = record { kind = InsertKind; id = given + 1; named = id; text = text }
+kept_of given (Delete id) = record { kind = DeleteKind; id = id; named = 0; text = [] }
+kept_of given (Replace id text) = record { kind = ReplaceKind; id = id; named = 0; text = text }
 
--- the steps that stood stand still
-abbrev pub Stays : (List Step → Type 0) → (List Step → Type 0) → Type 0
-Stays before after = (steps : List Step) → before steps → after steps
+-- how many ids were given, with that of the edit
+abbrev pub given_after : ℕ → Edit → ℕ
+given_after given (Insert place text) = given + 1
+given_after given (Delete id) = given
+given_after given (Replace id text) = given
 
--- behind the steps that stood there is one more
-abbrev pub AddsOne : (List Step → Type 0) → Step → (List Step → Type 0) → Type 0
-AddsOne before step after = (steps : List Step) → before steps → after (steps ++ step ∷ [])
+-- what is kept of edits, one after the other
+abbrev pub kept_of_edits : ℕ → List Edit → List Kept
+kept_of_edits given [] = []
+kept_of_edits given (edit ∷ edits) = kept_of given edit ∷ kept_of_edits (given_after given edit) edits
 
--- and it is the last one, behind them
-abbrev pub EndsWith : (List Step → Type 0) → Step → (List Step → Step → Type 0) → Type 0
-EndsWith before step ends = (steps : List Step) → before steps → ends steps step
+-- how many ids were given, with those of the edits
+abbrev pub given_after_edits : ℕ → List Edit → ℕ
+given_after_edits given [] = given
+given_after_edits given (edit ∷ edits) = given_after_edits (given_after given edit) edits
 
--- a journal has the same lines of both
-abbrev pub AreAlike : List Step → List Step → Type 0
-AreAlike one other = lines_of_steps 0 1 one ≡ lines_of_steps 0 1 other
+-- what stands before the edits of a load
+abbrev pub kept_of_load : Kept
+kept_of_load = record { kind = LoadKind; id = 0; named = 0; text = [] }
 
--- a crash leaves what it might have left before, or those that stood with one more
-abbrev pub LeavesOr : (List Step → Type 0) → (List Step → Type 0) → Step → (List Step → Type 0) → Type 0
-LeavesOr left stood step leaves =
-    (steps : List Step) → leaves steps → left steps ⊎ ((before : List Step) → stood before → AreAlike steps (before ++ step ∷ []))
+-- what is kept of a unit of a snapshot
+abbrev pub kept_of_unit : ℕ × List ℕ → Kept
+kept_of_unit unit = record { kind = UnitKind; id = unit.0; named = 0; text = unit.1 }
 
--- a crash leaves what it might have left before, or these in the place of those that stood
-abbrev pub LeavesOrOnly : (List Step → Type 0) → (List Step → Type 0) → List Step → (List Step → Type 0) → Type 0
-LeavesOrOnly left stood only leaves =
-    (steps : List Step) → leaves steps → left steps ⊎ ((before : List Step) → stood before → AreAlike steps only)
+-- what stands behind the units of a snapshot: how many ids were given
+abbrev pub kept_of_given : ℕ → Kept
+kept_of_given ids_given = record { kind = GivenKind; id = ids_given; named = 0; text = [] }
 
--- the step is a snapshot
-abbrev pub is_snapshot : Step → Bool
-is_snapshot (Edits edits) = false
-is_snapshot (Load edits) = false
-is_snapshot (Snapshot snapshot) = true
+-- what is kept of a step
+abbrev pub kept_of_step : ℕ → Step → List Kept
+kept_of_step given (Edits edits) = kept_of_edits given edits
+kept_of_step given (Load edits) = kept_of_load ∷ kept_of_edits given edits
+kept_of_step given (Snapshot snapshot) = map kept_of_unit snapshot.units ++ kept_of_given snapshot.ids_given ∷ []
 
--- none of the steps but the first is a snapshot
-abbrev pub IsFirstOnly : List Step → Type 0
-IsFirstOnly steps = All (λ step. is_snapshot step ≡ false) (drop 1 steps)
+-- how many ids were given after it
+abbrev pub given_by_step : ℕ → Step → ℕ
+given_by_step given (Edits edits) = given_after_edits given edits
+given_by_step given (Load edits) = given_after_edits given edits
+given_by_step given (Snapshot snapshot) = snapshot.ids_given
 
--- steps with what is left of a last one of which so many edits were made
-abbrev pub with_left : List Step → Step → ℕ → List Step
-with_left steps (Edits edits) zero = steps
-with_left steps (Edits edits) (suc made) = steps ++ Edits edits ∷ []
-with_left steps (Load edits) zero = steps
-with_left steps (Load edits) (suc made) = steps ++ Load (take (suc made) edits) ∷ []
-with_left steps (Snapshot snapshot) zero = steps
-with_left steps (Snapshot snapshot) (suc made) = steps ++ Snapshot snapshot ∷ []
+-- the step is an edit or several, a load, or a snapshot
+abbrev pub IsStep : Step → Type 0
+IsStep (Edits edits) = 0 < length edits
+IsStep (Load edits) = ⊤
+IsStep (Snapshot snapshot) = ⊤
+
+-- the step is the one that keeps this, and so many ids were given after it
+pub record IsReadFrom (given : ℕ) (kept : List Kept) (step : Step) (after : ℕ) : Type 0 where
+  pub kept_is : kept ≡ kept_of_step given step
+  pub is_step : IsStep step
+  pub after_is : after ≡ given_by_step given step

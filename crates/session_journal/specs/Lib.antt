@@ -1,2 +1,4 @@
 pub mod Kept
+pub mod Records
+pub mod SessionJournalKept
 pub mod Standing

@@ -8,10 +8,10 @@ use Rattle.edit_journal.specs.declared.journal.Journal.{Journal}
 use Rattle.edit_journal.specs.Journals.{Lasts}
 use Rattle.edit_journal.specs.declared.line.Step.{Step as Kept}
 use Rattle.edit_journal.specs.Lines.{Keeps, lines_of}
-use Rattle.journal_steps.specs.declared.step.Step.{Step}
-use Rattle.journal_steps.specs.declared.step.Step.TheVariants.{Edits, Load, Snapshot}
-use Rattle.journal_steps.specs.Kept.{kept_of_step}
-use Rattle.journal_steps.specs.Records.{given_by_steps, lines_of_steps}
+use Rattle.session_journal.specs.declared.steps.step.Step.{Step}
+use Rattle.session_journal.specs.declared.steps.step.Step.TheVariants.{Edits, Load, Snapshot}
+use Rattle.session_journal.specs.Kept.{kept_of_step}
+use Rattle.session_journal.specs.Records.{given_by_steps, lines_of_steps}
 use Rattle.session_journal.specs.declared.session_journal.SessionJournal.{SessionJournal}
 
 -- as many records as steps, whose lines are all that the store keeps; and a crash leaves them

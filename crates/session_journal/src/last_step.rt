@@ -2,9 +2,9 @@
 
 ghost use Rattle.std.specs.Prelude.{◌≡◌, ◌≢◌, ◌+◌, ◌<◌, ◌≤◌, ◌^◌, ℕ, List, None, Some, length, min, take};
 ghost use Rattle.stream_edits.specs.declared.edits.Edit.{Edit as EditValue};
-ghost use Rattle.journal_steps.specs.Kept.{given_after_edits};
+ghost use Rattle.session_journal.specs.Kept.{given_after_edits};
 
-use journal_steps::EditList;
+use crate::steps::EditList;
 use stream_edits::Edit;
 
 /// What is known of the last step that was recorded.

@@ -11,10 +11,11 @@ mod last_step;
 mod opening;
 mod records;
 mod session_journal;
+pub mod steps;
 mod unkept;
 
+pub use crate::steps::{EditList, Snapshot, Step};
 pub use edit_journal::JournalFault;
-pub use journal_steps::{EditList, Snapshot, Step};
 pub use opening::{Journals, SessionFile};
 pub use records::Records;
 pub use session_journal::SessionJournal;

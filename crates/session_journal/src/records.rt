@@ -1,13 +1,13 @@
 //! One who records the edits of a session, so that they stand after a crash.
 
 ghost use Rattle.std.specs.Prelude.{◌≡◌, ◌∷◌, List, [], OnErr, OnOk};
-ghost use Rattle.journal_steps.specs.declared.step.Step.{Step as StepValue};
-ghost use Rattle.journal_steps.specs.declared.step.Step.TheVariants.{Edits, Load, Snapshot as SnapshotStep};
-ghost use Rattle.journal_steps.specs.Records.{given_by_steps};
-ghost use Rattle.session_journal.specs.Kept.{AddsOne, EndsWith, LeavesOr, LeavesOrOnly, Stays, with_left};
+ghost use Rattle.session_journal.specs.declared.steps.step.Step.{Step as StepValue};
+ghost use Rattle.session_journal.specs.declared.steps.step.Step.TheVariants.{Edits, Load, Snapshot as SnapshotStep};
+ghost use Rattle.session_journal.specs.Records.{given_by_steps};
+ghost use Rattle.session_journal.specs.SessionJournalKept.{AddsOne, EndsWith, LeavesOr, LeavesOrOnly, Stays, with_left};
 
+use crate::steps::Snapshot;
 use crate::unkept::Unkept;
-use journal_steps::Snapshot;
 use stream_edits::Edit;
 
 /// One who records the edits of a session, each before it is made: what was answered as recorded

@@ -2,16 +2,16 @@
 
 ghost use Rattle.std.specs.Prelude.{◌≡◌, ◌<◌, List, false, IsTrue, OnErr, OnOk};
 ghost use Rattle.sqlite_trees.specs.View.{IsClean};
-ghost use Rattle.journal_steps.specs.declared.step.Step.{Step as StepValue};
-ghost use Rattle.journal_steps.specs.Kept.{given_by_step, kept_of_step};
-ghost use Rattle.session_journal.specs.Kept.{EndsWith, LeavesOr, LeavesOrOnly, Stays};
+ghost use Rattle.session_journal.specs.declared.steps.step.Step.{Step as StepValue};
+ghost use Rattle.session_journal.specs.Kept.{given_by_step, kept_of_step};
+ghost use Rattle.session_journal.specs.SessionJournalKept.{EndsWith, LeavesOr, LeavesOrOnly, Stays};
 ghost use Rattle.session_journal.specs.Standing.{AreRecordOf, CrashLeaves, IsEnd, LeavesNone, LeavesSome, Standing, load_of};
 
 use crate::last_step::LastStep;
 use crate::records::Records;
+use crate::steps::{EditList, Snapshot, keep_group, keep_load, keep_snapshot};
 use crate::unkept::Unkept;
 use edit_journal::{Journal, Step as Kept};
-use journal_steps::{EditList, Snapshot, keep_group, keep_load, keep_snapshot};
 use sqlite_trees::store::Alter;
 use std::alloc::Global;
 use std::slice;

@@ -2,7 +2,7 @@
 
 ghost use Rattle.std.specs.Prelude.{◌≡◌};
 ghost use Rattle.session_journal.specs.declared.unkept.Unkept.TheVariants.{Memory};
-ghost use Rattle.session_journal.specs.Kept.{unkept_of};
+ghost use Rattle.session_journal.specs.SessionJournalKept.{unkept_of};
 
 use edit_journal::JournalFault;
 use std::alloc::{AllocError, AllocFailed};

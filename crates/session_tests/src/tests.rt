@@ -18,9 +18,9 @@ mod running;
 mod stretches;
 mod texts;
 
-use edit_engine::{Config, EditRefused, NoSuchUnit, Receipt, Runner, Session};
-use pictures::AuId;
+use h264_types::pictures::AuId;
 use session_builders::{Told, edit_of};
+use stand_in_session::{Config, EditRefused, NoSuchUnit, Receipt, Runner, Session};
 use std::process::Abort;
 use unit_outcomes::{Outcome, ValidityFault};
 

@@ -4,16 +4,16 @@ use Rattle.std.specs.List.{AllByRecursion}
 use Rattle.std.proofs.lemmas.Bool.{cases_lt}
 use Rattle.std.proofs.lemmas.List.{take_all}
 use Rattle.expgolomb.specs.Bits.{Place, bits_of}
-use Rattle.param_set_types.specs.declared.sps.Sps.{Sps}
-use Rattle.param_set_types.specs.declared.pps.Pps.{Pps}
+use Rattle.h264_types.specs.declared.param_sets.sps.Sps.{Sps}
+use Rattle.h264_types.specs.declared.param_sets.pps.Pps.{Pps}
 use Rattle.expgolomb.specs.Payloads.{after_first}
 use Rattle.slice_header.specs.declared.fault.HeaderFault.{HeaderFault}
 use Rattle.slice_header.specs.declared.fault.HeaderFault.TheVariants.{Cut, Value, Memory}
-use Rattle.slice_header_types.specs.declared.slice_types.SliceType.{SliceType}
+use Rattle.h264_types.specs.declared.slice_headers.slice_types.SliceType.{SliceType}
 use Rattle.slice_header.specs.declared.marking_syntax.MarkingFlags.{MarkingFlags}
 use Rattle.slice_header.specs.declared.weight_syntax.Denominators.{Denominators}
-use Rattle.slice_header_types.specs.declared.pred_weight_table.PredWeightTable.{PredWeightTable}
-use Rattle.slice_header_types.specs.declared.slice_headers.SliceHeader.{SliceHeader}
+use Rattle.h264_types.specs.declared.slice_headers.pred_weight_table.PredWeightTable.{PredWeightTable}
+use Rattle.h264_types.specs.declared.slice_headers.slice_headers.SliceHeader.{SliceHeader}
 use Rattle.slice_header.specs.SliceHeaders.{IsSliceHeader, HeaderHasFault, Answers, header_at, syntax_of}
 use Rattle.slice_header.specs.Fronts.{read_value, unit_bits}
 use Rattle.slice_header.specs.SliceHeaderSyntax.{header_syntax, picture_syntax, reference_syntax, ending_syntax, number_table, order_table, prediction_table, active_table, weights_of, coding_table, deblocking_table}

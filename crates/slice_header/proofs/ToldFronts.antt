@@ -8,8 +8,8 @@ use Rattle.expgolomb.specs.TableReading.{value_at, rows_at}
 use Rattle.expgolomb.specs.Reading.{ue_at}
 use Rattle.expgolomb.specs.Payloads.{after_first}
 use Rattle.expgolomb.proofs.Extensions.{table_extended}
-use Rattle.slice_header_types.specs.declared.slice_types.SliceType.{SliceType}
-use Rattle.slice_header_types.specs.declared.slice_types.SliceType.TheVariants.{P, B, I}
+use Rattle.h264_types.specs.declared.slice_headers.slice_types.SliceType.{SliceType}
+use Rattle.h264_types.specs.declared.slice_headers.slice_types.SliceType.TheVariants.{P, B, I}
 use Rattle.slice_header.specs.declared.fault.HeaderFault.{HeaderFault}
 use Rattle.slice_header.specs.declared.fault.HeaderFault.TheVariants.{Cut}
 use Rattle.slice_header.specs.declared.front.HeaderFront.{HeaderFront}

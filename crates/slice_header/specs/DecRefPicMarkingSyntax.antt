@@ -2,11 +2,11 @@
 use Rattle.std.specs.Prelude.{ℕ, ◌==◌, nat_le, Bool, true, false, not, ◌&&◌, if◌then◌else◌, List, [], ◌∷◌, Option, Some, None, ℤ, nat_abs}
 use Rattle.slice_header.specs.declared.fault.HeaderFault.{HeaderFault}
 use Rattle.slice_header.specs.declared.fault.HeaderFault.TheVariants.{Value}
-use Rattle.slice_header_types.specs.declared.dec_ref_pic_marking.DecRefPicMarking.{DecRefPicMarking}
-use Rattle.slice_header_types.specs.declared.dec_ref_pic_marking.DecRefPicMarking.TheVariants.{Idr, SlidingWindow, Adaptive}
-use Rattle.slice_header_types.specs.declared.dec_ref_pic_marking.MemoryManagementControlOperation.{MemoryManagementControlOperation}
-use Rattle.slice_header_types.specs.declared.dec_ref_pic_marking.MemoryManagementControlOperation.TheVariants.{FreeShortTerm, FreeLongTerm, AssignLongTerm, LimitLongTerm, FreeAll, CurrentLongTerm}
-use Rattle.slice_header_types.specs.Operations.{most_operations}
+use Rattle.h264_types.specs.declared.slice_headers.dec_ref_pic_marking.DecRefPicMarking.{DecRefPicMarking}
+use Rattle.h264_types.specs.declared.slice_headers.dec_ref_pic_marking.DecRefPicMarking.TheVariants.{Idr, SlidingWindow, Adaptive}
+use Rattle.h264_types.specs.declared.slice_headers.dec_ref_pic_marking.MemoryManagementControlOperation.{MemoryManagementControlOperation}
+use Rattle.h264_types.specs.declared.slice_headers.dec_ref_pic_marking.MemoryManagementControlOperation.TheVariants.{FreeShortTerm, FreeLongTerm, AssignLongTerm, LimitLongTerm, FreeAll, CurrentLongTerm}
+use Rattle.h264_types.specs.Operations.{most_operations}
 use Rattle.slice_header.specs.declared.marking_syntax.MarkingFlags.{MarkingFlags}
 use Rattle.expgolomb.specs.Rows.{always, flag_of}
 use Rattle.slice_header.specs.HeaderRows.{u, ue_of, ue_any}

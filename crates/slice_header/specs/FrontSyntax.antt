@@ -2,11 +2,11 @@
 use Rattle.std.specs.Prelude.{[], ◌∷◌, Option, ℤ, nat_abs}
 use Rattle.slice_header.specs.declared.fault.HeaderFault.{HeaderFault}
 use Rattle.slice_header.specs.declared.front.HeaderFront.{HeaderFront}
-use Rattle.slice_header_types.specs.declared.slice_types.SliceType.TheVariants.{P}
+use Rattle.h264_types.specs.declared.slice_headers.slice_types.SliceType.TheVariants.{P}
 use Rattle.expgolomb.specs.Grammar.{Row}
 use Rattle.expgolomb.specs.Rows.{always}
 use Rattle.slice_header.specs.HeaderRows.{ue, ue_of}
-use Rattle.slice_header_types.specs.SliceTypes.{slice_type_of}
+use Rattle.h264_types.specs.SliceTypes.{slice_type_of}
 use Rattle.expgolomb.specs.Structures.{Table}
 
 -- the fields, in the standard's names

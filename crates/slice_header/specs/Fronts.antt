@@ -6,7 +6,7 @@ use Rattle.expgolomb.specs.Ranges.{any}
 use Rattle.expgolomb.specs.Payloads.{after_first}
 use Rattle.slice_header.specs.declared.fault.HeaderFault.{HeaderFault}
 use Rattle.slice_header.specs.declared.front.HeaderFront.{HeaderFront}
-use Rattle.slice_header_types.specs.declared.slice_types.SliceType.{SliceType}
+use Rattle.h264_types.specs.declared.slice_headers.slice_types.SliceType.{SliceType}
 use Rattle.slice_header.specs.FrontSyntax.{front_table, no_front, take_front, type_table}
 use Rattle.expgolomb.specs.Grammar.{HasFault}
 use Rattle.expgolomb.specs.Structures.{HasTable, table_at}

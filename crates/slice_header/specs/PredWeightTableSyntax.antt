@@ -1,8 +1,8 @@
 -- pred_weight_table() (ITU-T H.264, 7.3.3.2, 7.4.3.2).
 use Rattle.std.specs.Prelude.{ℕ, ◌^◌, Bool, true, false, List, [], ◌∷◌, Option, Some, None, ℤ, pos, negsuc, nat_abs}
 use Rattle.slice_header.specs.declared.fault.HeaderFault.{HeaderFault}
-use Rattle.slice_header_types.specs.declared.pred_weight_table.PredWeight.{PredWeight}
-use Rattle.slice_header_types.specs.declared.pred_weight_table.PredWeightTable.{PredWeightTable}
+use Rattle.h264_types.specs.declared.slice_headers.pred_weight_table.PredWeight.{PredWeight}
+use Rattle.h264_types.specs.declared.slice_headers.pred_weight_table.PredWeightTable.{PredWeightTable}
 use Rattle.slice_header.specs.declared.weight_syntax.Denominators.{Denominators}
 use Rattle.slice_header.specs.declared.weight_syntax.LumaWeight.{LumaWeight}
 use Rattle.slice_header.specs.declared.weight_syntax.ChromaWeight.{ChromaWeight}

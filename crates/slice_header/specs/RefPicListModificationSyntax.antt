@@ -2,8 +2,8 @@
 use Rattle.std.specs.Prelude.{ℕ, ◌+◌, ◌-◌, ◌==◌, nat_le, Bool, true, false, ◌&&◌, if◌then◌else◌, List, [], ◌∷◌, Option, Some, None, ℤ, nat_abs}
 use Rattle.slice_header.specs.declared.fault.HeaderFault.{HeaderFault}
 use Rattle.slice_header.specs.declared.fault.HeaderFault.TheVariants.{Value}
-use Rattle.slice_header_types.specs.declared.ref_pic_list_modification.RefPicListModification.{RefPicListModification}
-use Rattle.slice_header_types.specs.declared.ref_pic_list_modification.RefPicListModification.TheVariants.{Subtract, Add, LongTerm}
+use Rattle.h264_types.specs.declared.slice_headers.ref_pic_list_modification.RefPicListModification.{RefPicListModification}
+use Rattle.h264_types.specs.declared.slice_headers.ref_pic_list_modification.RefPicListModification.TheVariants.{Subtract, Add, LongTerm}
 use Rattle.expgolomb.specs.Rows.{always, flag_of}
 use Rattle.slice_header.specs.HeaderRows.{u, ue_of, ue, ue_any}
 use Rattle.expgolomb.specs.Structures.{Table, Syntax, Says, Structure, ended}

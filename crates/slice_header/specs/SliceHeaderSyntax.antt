@@ -2,31 +2,31 @@
 use Rattle.std.specs.Prelude.{ℕ, ◌+◌, ◌-◌, ◌*◌, ◌==◌, Bool, true, false, not, ◌&&◌, ◌||◌, [], ◌∷◌, ℤ, pos, negsuc, nat_abs, if◌then◌else◌, Option}
 use Rattle.slice_header.specs.declared.fault.HeaderFault.{HeaderFault}
 use Rattle.slice_header.specs.declared.fault.HeaderFault.TheVariants.{Value}
-use Rattle.slice_header_types.specs.declared.slice_types.SliceType.{SliceType}
-use Rattle.slice_header_types.specs.declared.slice_headers.SliceHeader.{SliceHeader}
+use Rattle.h264_types.specs.declared.slice_headers.slice_types.SliceType.{SliceType}
+use Rattle.h264_types.specs.declared.slice_headers.slice_headers.SliceHeader.{SliceHeader}
 use Rattle.slice_header.specs.declared.headers.HeaderFields.{HeaderFields}
 use Rattle.slice_header.specs.declared.headers.PicturePart.{PicturePart}
 use Rattle.slice_header.specs.declared.headers.ReferencePart.{ReferencePart}
 use Rattle.slice_header.specs.declared.headers.EndingPart.{EndingPart}
-use Rattle.slice_header_types.specs.declared.pred_weight_table.PredWeightTable.{PredWeightTable}
+use Rattle.h264_types.specs.declared.slice_headers.pred_weight_table.PredWeightTable.{PredWeightTable}
 use Rattle.slice_header.specs.declared.prediction.Prediction.{Prediction}
 use Rattle.slice_header.specs.declared.prediction.ActiveCounts.{ActiveCounts}
 use Rattle.slice_header.specs.declared.coding.Coding.{Coding}
 use Rattle.slice_header.specs.declared.coding.Deblocking.{Deblocking}
 use Rattle.slice_header.specs.declared.picture_fields.Numbers.{Numbers}
 use Rattle.slice_header.specs.declared.picture_fields.OrderCounts.{OrderCounts}
-use Rattle.param_set_types.specs.declared.sps.Sps.{Sps}
-use Rattle.param_set_types.specs.declared.sps.ChromaFormat.{ChromaFormat}
-use Rattle.param_set_types.specs.declared.sps.ChromaFormat.TheVariants.{Monochrome}
-use Rattle.param_set_types.specs.declared.pps.Pps.{Pps}
-use Rattle.param_set_types.specs.declared.pps.WeightedBipred.{WeightedBipred}
-use Rattle.param_set_types.specs.declared.pps.WeightedBipred.TheVariants.{Explicit}
+use Rattle.h264_types.specs.declared.param_sets.sps.Sps.{Sps}
+use Rattle.h264_types.specs.declared.param_sets.sps.ChromaFormat.{ChromaFormat}
+use Rattle.h264_types.specs.declared.param_sets.sps.ChromaFormat.TheVariants.{Monochrome}
+use Rattle.h264_types.specs.declared.param_sets.pps.Pps.{Pps}
+use Rattle.h264_types.specs.declared.param_sets.pps.WeightedBipred.{WeightedBipred}
+use Rattle.h264_types.specs.declared.param_sets.pps.WeightedBipred.TheVariants.{Explicit}
 use Rattle.expgolomb.specs.Ranges.{at_most}
 use Rattle.expgolomb.specs.Rows.{always, flag_of}
-use Rattle.param_set_types.specs.CountTypes.{is_type_zero, is_type_one}
-use Rattle.param_set_types.specs.FrameNumbers.{max_frame_num}
+use Rattle.h264_types.specs.CountTypes.{is_type_zero, is_type_one}
+use Rattle.h264_types.specs.FrameNumbers.{max_frame_num}
 use Rattle.slice_header.specs.HeaderRows.{u, ue, se, se_any}
-use Rattle.slice_header_types.specs.SliceTypes.{is_p, is_b, is_i, has_list}
+use Rattle.h264_types.specs.SliceTypes.{is_p, is_b, is_i, has_list}
 use Rattle.slice_header.specs.FrontSyntax.{front_table}
 use Rattle.slice_header.specs.RefPicListModificationSyntax.{modification_syntax}
 use Rattle.slice_header.specs.PredWeightTableSyntax.{weight_syntax, weights_if}

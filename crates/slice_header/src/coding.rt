@@ -8,8 +8,8 @@ ghost use Rattle.expgolomb.specs.Structures.{table_at};
 use crate::HeaderFault;
 use crate::fields::{se, ue};
 use expgolomb::Bits;
-use param_set_types::Pps;
-use slice_header_types::SliceType;
+use h264_types::param_sets::Pps;
+use h264_types::slice_headers::SliceType;
 
 /// cabac_init_idc and slice_qp_delta.
 #[derive(Clone, Copy)]

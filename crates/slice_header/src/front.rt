@@ -6,7 +6,7 @@ ghost use Rattle.expgolomb.specs.Ranges.{any, at_most};
 ghost use Rattle.expgolomb.specs.Answer.{Reads};
 ghost use Rattle.expgolomb.specs.Payloads.{after_first};
 ghost use Rattle.slice_header.specs.FrontSyntax.{front_table, type_table};
-ghost use Rattle.slice_header_types.specs.SliceTypes.{slice_type_of};
+ghost use Rattle.h264_types.specs.SliceTypes.{slice_type_of};
 ghost use Rattle.slice_header.specs.Fronts.{FrontHasFault, IsFront, front_at, slice_type_at, read_value, type_of};
 ghost use Rattle.expgolomb.specs.Structures.{table_at};
 
@@ -15,7 +15,7 @@ use crate::fields::{after_first, ue, ue_any};
 use crate::starts::Start;
 use annexb::{Nal, payload_front};
 use expgolomb::Bits;
-use slice_header_types::SliceType;
+use h264_types::slice_headers::SliceType;
 
 /// The first fields of a slice header (7.3.3).
 #[derive(Clone, Copy, Debug, PartialEq, Eq)]

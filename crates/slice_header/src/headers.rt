@@ -5,7 +5,7 @@ ghost use Rattle.annexb.specs.NalUnit.{nal_ref_idc, nal_unit_type};
 ghost use Rattle.slice_header.specs.HeaderAnswer.{Stores};
 ghost use Rattle.slice_header.specs.SliceHeaders.{syntax_of};
 ghost use Rattle.slice_header.specs.SliceHeaderSyntax.{weights_of, is_weighted, is_monochrome, header_from, picture_syntax, reference_syntax, ending_syntax};
-ghost use Rattle.slice_header_types.specs.SliceTypes.{has_list, is_b};
+ghost use Rattle.h264_types.specs.SliceTypes.{has_list, is_b};
 ghost use Rattle.expgolomb.specs.Answer.{Reads};
 ghost use Rattle.expgolomb.specs.Structures.{syntax_at};
 
@@ -18,8 +18,8 @@ use crate::weight_syntax::pred_weight_table;
 use crate::{HeaderFault, HeaderFront, header_front};
 use annexb::Nal;
 use expgolomb::Bits;
-use param_set_types::{ChromaFormat, Pps, Sps, WeightedBipred};
-use slice_header_types::{
+use h264_types::param_sets::{ChromaFormat, Pps, Sps, WeightedBipred};
+use h264_types::slice_headers::{
     DecRefPicMarking, PredWeightTable, RefPicListModifications, SliceHeader, SliceType,
 };
 use std::alloc::Global;

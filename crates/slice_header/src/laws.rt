@@ -1,9 +1,9 @@
 //! Laws of the definitions, each the contract of a function that does nothing.
 
 ghost use Rattle.std.specs.Prelude.{◌≡◌, ◌↔◌, ℕ, List, Ok, Err};
-ghost use Rattle.slice_header_types.specs.declared.slice_headers.SliceHeader.{SliceHeader};
-ghost use Rattle.param_set_types.specs.declared.pps.Pps.{Pps};
-ghost use Rattle.param_set_types.specs.declared.sps.Sps.{Sps};
+ghost use Rattle.h264_types.specs.declared.slice_headers.slice_headers.SliceHeader.{SliceHeader};
+ghost use Rattle.h264_types.specs.declared.param_sets.pps.Pps.{Pps};
+ghost use Rattle.h264_types.specs.declared.param_sets.sps.Sps.{Sps};
 ghost use Rattle.slice_header.specs.declared.fault.HeaderFault.{HeaderFault};
 ghost use Rattle.slice_header.specs.SliceHeaders.{HeaderHasFault, IsSliceHeader, header_at};
 

@@ -25,10 +25,10 @@ mod weight_syntax;
 
 pub use fault::HeaderFault;
 pub use front::{HeaderFront, header_front, peek, peek_start, slice_type};
-pub use reading::{read, read_from};
-pub use slice_header_types::{
+pub use h264_types::slice_headers::{
     DecRefPicMarking, MemoryManagementControlOperation, MemoryManagementControlOperations,
     PredWeight, PredWeightTable, PredWeights, RefPicListModification, RefPicListModifications,
     SliceHeader, SliceType,
 };
+pub use reading::{read, read_from};
 pub use starts::Start;

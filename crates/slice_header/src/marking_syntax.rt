@@ -11,7 +11,7 @@ ghost use Rattle.expgolomb.specs.Structures.{table_at, syntax_at};
 use crate::HeaderFault;
 use crate::fields::{flag, ue_any};
 use expgolomb::Bits;
-use slice_header_types::{
+use h264_types::slice_headers::{
     DecRefPicMarking, MOST_OPERATIONS, MemoryManagementControlOperation,
     MemoryManagementControlOperations,
 };

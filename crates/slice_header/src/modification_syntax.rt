@@ -11,7 +11,7 @@ ghost use Rattle.expgolomb.specs.Structures.{table_at, syntax_at, ended};
 use crate::HeaderFault;
 use crate::fields::{flag, ue, ue_any};
 use expgolomb::Bits;
-use slice_header_types::{RefPicListModification, RefPicListModifications};
+use h264_types::slice_headers::{RefPicListModification, RefPicListModifications};
 use std::alloc::Global;
 
 /// Reads the commands of a list of so many active entries less 1, where the slice has it.

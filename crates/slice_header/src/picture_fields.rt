@@ -8,7 +8,7 @@ ghost use Rattle.expgolomb.specs.Structures.{table_at};
 use crate::HeaderFault;
 use crate::fields::{fixed, se_any, ue};
 use expgolomb::Bits;
-use param_set_types::{PicOrderCntType, Pps, Sps};
+use h264_types::param_sets::{PicOrderCntType, Pps, Sps};
 
 /// frame_num and idr_pic_id.
 #[derive(Clone, Copy)]

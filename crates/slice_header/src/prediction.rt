@@ -3,15 +3,15 @@
 ghost use Rattle.std.specs.Prelude.{◌≡◌, ◌≤◌, ◌+◌, true};
 ghost use Rattle.expgolomb.specs.Answer.{Reads};
 ghost use Rattle.slice_header.specs.SliceHeaderSyntax.{prediction_table, active_table};
-ghost use Rattle.slice_header_types.specs.SliceTypes.{is_b};
+ghost use Rattle.h264_types.specs.SliceTypes.{is_b};
 ghost use Rattle.expgolomb.specs.Structures.{table_at};
 
 use crate::HeaderFault;
 use crate::fields::{flag, ue};
-use base_types::AtMost;
 use expgolomb::Bits;
-use param_set_types::Pps;
-use slice_header_types::SliceType;
+use h264_types::base::AtMost;
+use h264_types::param_sets::Pps;
+use h264_types::slice_headers::SliceType;
 
 /// redundant_pic_cnt and direct_spatial_mv_pred_flag.
 #[derive(Clone, Copy)]

@@ -7,14 +7,14 @@ ghost use Rattle.slice_header.specs.Fronts.{read_value};
 ghost use Rattle.slice_header.specs.Starts.{start_of};
 ghost use Rattle.expgolomb.specs.Structures.{syntax_at};
 ghost use Rattle.slice_header.specs.declared.fault.HeaderFault.{HeaderFault};
-ghost use Rattle.slice_header_types.specs.declared.slice_headers.SliceHeader.{SliceHeader};
+ghost use Rattle.h264_types.specs.declared.slice_headers.slice_headers.SliceHeader.{SliceHeader};
 
 use crate::fields::after_first;
 use crate::headers::{header_fields, header_from};
 use crate::{HeaderFault, Start};
 use annexb::{Nal, payload};
-use param_set_types::{Pps, Sps};
-use slice_header_types::SliceHeader;
+use h264_types::param_sets::{Pps, Sps};
+use h264_types::slice_headers::SliceHeader;
 use std::alloc::Global;
 
 /// Reads the header of a slice with the parameter sets that it names: the first field that can't be

@@ -12,7 +12,7 @@ ghost use Rattle.expgolomb.specs.Structures.{table_at, syntax_at};
 use crate::HeaderFault;
 use crate::fields::{flag, se, ue};
 use expgolomb::Bits;
-use slice_header_types::{PredWeight, PredWeightTable, PredWeights};
+use h264_types::slice_headers::{PredWeight, PredWeightTable, PredWeights};
 use std::alloc::Global;
 
 /// The denominators, as powers of 2.

@@ -1,7 +1,7 @@
 -- The parameter sets that a stream has sent so far (ITU-T H.264, 7.4.1.2.1).
 use Rattle.std.specs.Prelude.{ℕ, List, Option, None, Some, replicate, set, get_or, fold}
-use Rattle.param_set_types.specs.declared.sps.Sps.{Sps}
-use Rattle.param_set_types.specs.declared.pps.Pps.{Pps}
+use Rattle.h264_types.specs.declared.param_sets.sps.Sps.{Sps}
+use Rattle.h264_types.specs.declared.param_sets.pps.Pps.{Pps}
 use Rattle.access_unit.specs.declared.parameter_sets.ParameterSet.{ParameterSet}
 use Rattle.access_unit.specs.declared.parameter_sets.ParameterSet.TheVariants as sets
 

@@ -1,12 +1,12 @@
 -- The slices of a unit, each with its header, or the fault that a header shows (ITU-T H.264, 7.3.3
 -- and 7.4.1.2.1).
 use Rattle.std.specs.Prelude.{ℕ, List, Option, None, Some, Result, Ok, Err}
-use Rattle.param_set_types.specs.declared.sps.Sps.{Sps}
-use Rattle.param_set_types.specs.declared.pps.Pps.{Pps}
+use Rattle.h264_types.specs.declared.param_sets.sps.Sps.{Sps}
+use Rattle.h264_types.specs.declared.param_sets.pps.Pps.{Pps}
 use Rattle.slice_header.specs.declared.fault.HeaderFault.{HeaderFault}
 use Rattle.slice_header.specs.declared.fault.HeaderFault.TheVariants as headers
 use Rattle.slice_header.specs.declared.front.HeaderFront.{HeaderFront}
-use Rattle.slice_header_types.specs.declared.slice_headers.SliceHeader.{SliceHeader}
+use Rattle.h264_types.specs.declared.slice_headers.slice_headers.SliceHeader.{SliceHeader}
 use Rattle.slice_header.specs.Fronts.{front_at}
 use Rattle.slice_header.specs.SliceHeaders.{header_at}
 use Rattle.unit_outcomes.specs.declared.validity_fault.ValidityFault.{ValidityFault}

@@ -6,7 +6,7 @@ ghost use lib.Pointwise.{pointwise};
 ghost use Rattle.slice_reading.specs.Faults.{first_shown, is_redundant, rises_from, same_operation, same_marking, same_picture, slice_rows};
 
 use crate::slices::Slice;
-use slice_header_types::{DecRefPicMarking, MemoryManagementControlOperation};
+use h264_types::slice_headers::{DecRefPicMarking, MemoryManagementControlOperation};
 use unit_outcomes::ValidityFault;
 
 /// The first fault that the slices of a unit show by themselves: a redundant one, an order in which

@@ -4,9 +4,9 @@ ghost use Rattle.std.specs.Prelude.{◌≡◌, ◌↔◌, IfOk, IfSome, IsTrue};
 ghost use Rattle.param_set_controls.specs.SpsControl.{sps_control};
 
 use crate::sets::Sets;
-use base_types::Shared;
+use h264_types::base::Shared;
+use h264_types::param_sets::{Pps, Sps};
 use param_set_controls::V4l2CtrlH264Sps;
-use param_set_types::{Pps, Sps};
 use std::alloc::{AllocError, Global};
 use std::marker::Model;
 
@@ -33,7 +33,7 @@ impl Drop for SpsPlace {
 
 impl Model for SpsPlace {
     ghost use Rattle.std.specs.Prelude.{◌≡◌};
-    ghost use Rattle.param_set_types.specs.declared.sps.Sps.{Sps as SpsValue};
+    ghost use Rattle.h264_types.specs.declared.param_sets.sps.Sps.{Sps as SpsValue};
     ghost use Rattle.param_set_controls.specs.SpsControl.{sps_control};
 
     ghost Value = { SpsValue };
@@ -92,7 +92,7 @@ impl Drop for PpsPlace {
 
 impl Model for PpsPlace {
     ghost use Rattle.std.specs.Prelude.{◌≡◌, IfSome};
-    ghost use Rattle.param_set_types.specs.declared.pps.Pps.{Pps as PpsValue};
+    ghost use Rattle.h264_types.specs.declared.param_sets.pps.Pps.{Pps as PpsValue};
 
     ghost Value = { PpsValue };
 

@@ -5,7 +5,7 @@ ghost use Rattle.slice_reading.specs.ParameterSets.{put_all};
 
 use crate::tables::Tables;
 use access_unit::ParameterSet;
-use base_types::Shared;
+use h264_types::base::Shared;
 use std::alloc::{AllocError, Global};
 
 /// The tables with these sets, each put in turn; where there are none, the same tables shared.

@@ -5,9 +5,9 @@ ghost use Rattle.std.specs.Prelude.{◌≡◌, ◌↔◌, IfOk, IsTrue};
 ghost use Rattle.param_set_controls.specs.SetControls.{set_controls};
 
 use crate::places::{PpsPlace, SpsPlace};
-use base_types::Shared;
+use h264_types::base::Shared;
+use h264_types::param_sets::{Pps, Sps};
 use param_set_controls::SetControls;
-use param_set_types::{Pps, Sps};
 use std::alloc::{AllocError, Global};
 use std::marker::Model;
 

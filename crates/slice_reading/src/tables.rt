@@ -6,8 +6,8 @@ ghost use Rattle.slice_reading.specs.ParameterSets.{no_sets, put, put_all, sps_u
 use crate::places::{Place, PpsPlace, SpsPlace};
 use crate::sets::Sets;
 use access_unit::ParameterSet;
-use base_types::Shared;
-use param_set_types::{Pps, Sps};
+use h264_types::base::Shared;
+use h264_types::param_sets::{Pps, Sps};
 use std::alloc::{AllocError, Global};
 use std::marker::Model;
 

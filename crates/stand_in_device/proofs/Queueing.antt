@@ -1,12 +1,12 @@
 -- The queues of a decoder as a slice goes through them.
 use Rattle.std.proofs.Common.{◌≡◌, ℕ, zero, suc, ◌<◌, List, [], ◌∷◌, length, Option, None, Some, Result, Ok, sym, ◌∙◌, ap, get_or, get_or-set_same, arith}
-use Rattle.m2m_queues.specs.Buffers.{free, queued}
-use Rattle.m2m_queues.specs.Machine.{Machine, empty_request, request_of, with_request}
-use Rattle.m2m_queues.specs.Queuing.{output_of, queue_output}
-use Rattle.m2m_queues.specs.Requests.{queue_request, set_controls}
-use Rattle.m2m_queues.specs.declared.requests.Output.{Output}
-use Rattle.m2m_queues.specs.declared.requests.Request.{Request as QueueRequest}
-use Rattle.m2m_queues.specs.declared.requests.RequestState.TheVariants.{Idle}
+use Rattle.stand_in_device.specs.Buffers.{free, queued}
+use Rattle.stand_in_device.specs.Machine.{Machine, empty_request, request_of, with_request}
+use Rattle.stand_in_device.specs.Queuing.{output_of, queue_output}
+use Rattle.stand_in_device.specs.Requests.{queue_request, set_controls}
+use Rattle.stand_in_device.specs.declared.m2m_queues.requests.Output.{Output}
+use Rattle.stand_in_device.specs.declared.m2m_queues.requests.Request.{Request as QueueRequest}
+use Rattle.stand_in_device.specs.declared.m2m_queues.requests.RequestState.TheVariants.{Idle}
 use Rattle.h264_controls.specs.declared.request.Request.{Request}
 use Rattle.stand_in_device.specs.declared.slice_digest.SliceControls.{SliceControls}
 use Rattle.stand_in_device.specs.Decoding.{IsBetween, IsWaiting, waiting}

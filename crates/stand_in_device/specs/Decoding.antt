@@ -2,12 +2,12 @@
 use Rattle.std.specs.Prelude.{◌≡◌, ◌⊎◌, ℕ, List, [], ◌∷◌, Some, if◌then◌else◌, ◌==◌, IsTrue}
 use Rattle.std.specs.List.{list_all}
 use Rattle.sha2.specs.Hashers.{Holds256}
-use Rattle.m2m_queues.specs.Machine.{Machine, empty_request, request_of}
-use Rattle.m2m_queues.specs.Buffers.{done, free, held, queued}
-use Rattle.m2m_queues.specs.Queuing.{output_of}
-use Rattle.m2m_queues.specs.declared.buffers.Buffer.{Buffer}
-use Rattle.m2m_queues.specs.declared.requests.RequestState.TheVariants.{Complete, Idle, Queued}
-use Rattle.m2m_queues.specs.declared.requests.Request.{Request as QueueRequest}
+use Rattle.stand_in_device.specs.Machine.{Machine, empty_request, request_of}
+use Rattle.stand_in_device.specs.Buffers.{done, free, held, queued}
+use Rattle.stand_in_device.specs.Queuing.{output_of}
+use Rattle.stand_in_device.specs.declared.m2m_queues.buffers.Buffer.{Buffer}
+use Rattle.stand_in_device.specs.declared.m2m_queues.requests.RequestState.TheVariants.{Complete, Idle, Queued}
+use Rattle.stand_in_device.specs.declared.m2m_queues.requests.Request.{Request as QueueRequest}
 use Rattle.h264_controls.specs.declared.request.Request.{Request}
 use Rattle.stand_in_device.specs.declared.slice_digest.SliceControls.{SliceControls}
 use Rattle.stand_in_device.specs.declared.slice_digest.SliceDigest.{SliceDigest}

@@ -5,7 +5,7 @@ use Rattle.std.specs.List.{flat_map}
 use Rattle.sha2.specs.Sha256.{sha256}
 use Rattle.h264_controls.specs.declared.work.Work.{Work}
 use Rattle.h264_controls.specs.DigestForm.{digest_form}
-use Rattle.dep_keys.specs.Trees.Tree.{Bare, Gap, With}
+use Rattle.decode_jobs.specs.Trees.Tree.{Bare, Gap, With}
 use Rattle.stand_in_device.specs.declared.picture.Picture.{Picture}
 use Rattle.decode_jobs.specs.Inputs.{InputValue, entries_of}
 use Rattle.stand_in_device.specs.Pictures.{picture_bytes, picture_of, size_bytes}

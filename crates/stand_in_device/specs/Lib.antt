@@ -1,3 +1,12 @@
+pub mod FaultNumbers
+pub mod Buffers
+pub mod Machine
+pub mod Kept
+pub mod Steps
+pub mod Requests
+pub mod Queuing
+pub mod Given
+pub mod Runs
 pub mod Pictures
 pub mod KeyPictures
 pub mod Pictured

@@ -1,7 +1,7 @@
 -- What the work on a slice does to the digest of its frame.
 use Rattle.std.specs.Prelude.{◌≡◌, ℕ, List, ◌++◌, true, false}
 use Rattle.sha2.specs.Hashers.{Holds256}
-use Rattle.m2m_queues.specs.Given.{Given}
+use Rattle.stand_in_device.specs.Given.{Given}
 use Rattle.stand_in_device.specs.declared.slice_digest.SliceControls.{SliceControls}
 use Rattle.stand_in_device.specs.declared.slice_digest.SliceDigest.{SliceDigest}
 use Rattle.stand_in_device.specs.Pictures.{slice_record}

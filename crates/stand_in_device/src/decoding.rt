@@ -2,15 +2,15 @@
 
 ghost use Rattle.std.specs.Prelude.{◌≡◌, ◌∷◌, ◌++◌, ℕ, List, [], IfOk, IsTrue, OnOk};
 ghost use Rattle.sha2.specs.Hashers.{Holds256};
-ghost use Rattle.m2m_queues.specs.Buffers.{done, queued};
+ghost use Rattle.stand_in_device.specs.Buffers.{done, queued};
 ghost use Rattle.std.specs.List.{flat_map};
 ghost use Rattle.decode_jobs.specs.Inputs.{holds_but_last};
 ghost use Rattle.stand_in_device.specs.Decoding.{AllHave, CanTake, IsBetween, IsDecoded, IsRun, IsWaiting, written_by};
 ghost use Rattle.stand_in_device.specs.Pictures.{record_of};
 
+use crate::m2m_queues::{Dequeued, QueueFault, Queues, RequestId, RunOne};
 use crate::slice_digest::{SliceControls, SliceDigest};
 use h264_controls::Request;
-use m2m_queues::{Dequeued, QueueFault, Queues, RequestId, RunOne};
 use std::alloc::{AllocError, Global};
 use std::marker::Model;
 
@@ -24,7 +24,7 @@ pub(crate) struct Decoding {
 
 impl Model for Decoding {
     ghost use Rattle.std.specs.Prelude.{List};
-    ghost use Rattle.m2m_queues.specs.declared.buffers.Buffer.{Buffer};
+    ghost use Rattle.stand_in_device.specs.declared.m2m_queues.buffers.Buffer.{Buffer};
     ghost use Rattle.stand_in_device.specs.Decoding.{IsBetween};
 
     ghost Value = { List Buffer };

@@ -11,6 +11,7 @@ mod decoding;
 mod device;
 mod job;
 mod laws;
+pub mod m2m_queues;
 mod picture;
 mod records;
 mod sets_digest;

@@ -5,8 +5,8 @@ ghost use Rattle.std.specs.Prelude.{◌≡◌, ◌↔◌, ◌++◌, IfOk, IsTrue
 ghost use Rattle.sha2.specs.Hashers.{Holds256};
 ghost use Rattle.param_set_controls.specs.SetsForm.{sets_form};
 
-use base_types::Shared;
 use h264_controls::{SetControls, sets_form};
+use h264_types::base::Shared;
 use sha2::{Digest, Sha256};
 use std::alloc::AllocError;
 use std::marker::Model;

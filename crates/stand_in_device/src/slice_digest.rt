@@ -14,12 +14,12 @@ ghost use Rattle.stand_in_device.specs.Pictures.{entry_bytes, size_bytes, slice_
 ghost use Rattle.stand_in_device.specs.SliceWorks.{Adds};
 
 use crate::job::Reference;
+use crate::m2m_queues::{SliceWork, Target};
 use crate::picture::Picture;
 use crate::records::{feed_bytes, feed_references};
 use crate::sets_digest::SetsDigest;
-use base_types::Shared;
 use h264_controls::{References, SetControls, Work, digest_in_two_parts, sets_form, slice_form};
-use m2m_queues::{SliceWork, Target};
+use h264_types::base::Shared;
 use sha2::{Digest, Sha256};
 use std::alloc::{AllocError, Global};
 

@@ -2,7 +2,7 @@
 use Rattle.std.proofs.Common.{◌≡◌, ◌≤◌, ◌↔◌, ◌==◌, ◌∙◌, ap, sym, ℕ, List, length, IsTrue}
 use Rattle.std.proofs.lemmas.Bool.{eq-eqb, eqb-true}
 use Rattle.access_unit.specs.Rooms.{IsStream, most_units}
-use Rattle.unit_json.specs.StreamLines.{stream_outcomes}
+use Rattle.unit_printing.specs.StreamLines.{stream_outcomes}
 use Rattle.stream_check.specs.Counts.{counted}
 use Rattle.stream_check.specs.Found.{IsCheckOf, IsFine, IsTaken}
 use Rattle.stream_check.specs.declared.counts.Which.TheVariants.{Fault}

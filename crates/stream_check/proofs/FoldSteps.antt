@@ -5,7 +5,7 @@ use Rattle.std.proofs.lemmas.List.{drop_more}
 use Rattle.unit_outcomes.specs.declared.outcome.Outcome.{Outcome}
 use Rattle.request_core.specs.States.{FoldState, no_units}
 use Rattle.request_core.specs.Fold.{fold_step, outcomes_from, outcomes_of}
-use Rattle.unit_json.specs.StreamLines.{numbered_from}
+use Rattle.unit_printing.specs.StreamLines.{numbered_from}
 use Rattle.stream_check.specs.Problems.{problem_at, problems_from, reason_at}
 use Rattle.stream_check.specs.declared.problems.Problem.{Problem}
 

@@ -4,15 +4,15 @@ use Rattle.std.specs.Prelude.{◌==◌, ◌&&◌, ◌||◌}
 use Rattle.std.proofs.lemmas.Bool.{eqb-true}
 use Rattle.annexb.specs.NalUnit.{is_slice}
 use Rattle.access_unit.specs.Sets.{sets_of}
-use Rattle.base_types.specs.Chains.{◌>>=◌}
-use Rattle.pictures.specs.declared.counts.Counts.{Counts}
-use Rattle.pictures.specs.Resetting.{has_operation_five}
-use Rattle.order_count.specs.Counting.{counts_of}
-use Rattle.param_set_types.specs.declared.sps.Sps.{Sps}
-use Rattle.slice_header_types.specs.declared.slice_headers.SliceHeader.{SliceHeader}
-use Rattle.slice_header_types.specs.Pictures.{is_idr, is_reference}
-use Rattle.ref_lists.specs.declared.fault.ListFault.{ListFault}
-use Rattle.ref_marking.specs.MarksAfter.{marks_after}
+use Rattle.h264_types.specs.Chains.{◌>>=◌}
+use Rattle.h264_types.specs.declared.pictures.counts.Counts.{Counts}
+use Rattle.h264_types.specs.Resetting.{has_operation_five}
+use Rattle.slice_decoding.specs.Counting.{counts_of}
+use Rattle.h264_types.specs.declared.param_sets.sps.Sps.{Sps}
+use Rattle.h264_types.specs.declared.slice_headers.slice_headers.SliceHeader.{SliceHeader}
+use Rattle.h264_types.specs.Pictures.{is_idr, is_reference}
+use Rattle.slice_decoding.specs.declared.ref_lists.fault.ListFault.{ListFault}
+use Rattle.slice_decoding.specs.MarksAfter.{marks_after}
 use Rattle.unit_outcomes.specs.declared.validity_fault.ValidityFault.{ValidityFault}
 use Rattle.unit_outcomes.specs.declared.validity_fault.ValidityFault.TheVariants.{NoIdr, SpsChange, IdrFrameNum, FrameNumGap, FrameNumRepeat}
 use Rattle.unit_outcomes.specs.declared.outcome.Outcome.{Outcome}

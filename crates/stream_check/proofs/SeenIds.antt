@@ -2,10 +2,10 @@
 use Rattle.std.proofs.Common.{◌≡◌, ◌∙◌, ap, ℕ, ◌+◌, Bool, List, [], ◌∷◌, ◌++◌, length, map, zero, suc, arith, refl}
 use Rattle.std.proofs.lemmas.Option.{same_Some}
 use Rattle.unit_outcomes.specs.declared.outcome.Outcome.{Outcome}
-use Rattle.doubts.specs.SeenUnits.{HasId, seen_units}
-use Rattle.doubts.specs.InDoubt.{IdsDiffer}
-use Rattle.doubts.specs.References.{is_of_reference}
-use Rattle.unit_json.specs.Seen.{ids_from, stream_seen}
+use Rattle.unit_outcomes.specs.SeenUnits.{HasId, seen_units}
+use Rattle.unit_outcomes.specs.InDoubt.{IdsDiffer}
+use Rattle.unit_outcomes.specs.References.{is_of_reference}
+use Rattle.unit_printing.specs.Seen.{ids_from, stream_seen}
 
 -- so many ids, and one more
 pub ids_more : (id count : ℕ) → ids_from id (suc count) ≡ ids_from id count ++ (id + count) ∷ []

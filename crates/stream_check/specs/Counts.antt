@@ -5,8 +5,8 @@ use Rattle.h264_controls.specs.declared.request.Request.{Request}
 use Rattle.frame_requests.specs.FrameFlags.{is_b, is_p}
 use Rattle.unit_outcomes.specs.declared.outcome.Outcome.{Outcome}
 use Rattle.unit_outcomes.specs.declared.outcome.Outcome.TheVariants.{Plan, Fault, Empty}
-use Rattle.doubts.specs.SeenUnits.{is_idr_picture}
-use Rattle.doubts.specs.declared.doubt.Doubt.{Doubt}
+use Rattle.unit_outcomes.specs.SeenUnits.{is_idr_picture}
+use Rattle.unit_outcomes.specs.declared.doubts.doubt.Doubt.{Doubt}
 use Rattle.stream_check.specs.declared.counts.Counts.{Counts}
 use Rattle.stream_check.specs.declared.counts.Which.{Which}
 use Rattle.stream_check.specs.declared.counts.Which.TheVariants.{Intra, Predicted, Bipredicted, Idr, NoPicture, Period}

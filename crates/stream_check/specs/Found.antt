@@ -1,14 +1,14 @@
 -- What is found of a file.
 use Rattle.std.specs.Prelude.{◌≡◌, ◌≢◌, ◌≤◌, ℕ, ◌==◌, Bool, false, List, length, map, vec_len}
 use Rattle.access_unit.specs.Rooms.{IsStream, IsStreamRefused, most_units}
-use Rattle.doubts.specs.InDoubt.{AreDoubts}
-use Rattle.doubts.specs.declared.doubt.Doubt.{Doubt}
-use Rattle.file_kinds.specs.Kinds.{kind_of}
-use Rattle.file_kinds.specs.declared.kind.FileKind.TheVariants.{H264AnnexB}
+use Rattle.unit_outcomes.specs.InDoubt.{AreDoubts}
+use Rattle.unit_outcomes.specs.declared.doubts.doubt.Doubt.{Doubt}
+use Rattle.stream_reasons.specs.Kinds.{kind_of}
+use Rattle.stream_reasons.specs.declared.file_kinds.kind.FileKind.TheVariants.{H264AnnexB}
 use Rattle.request_core.specs.States.{no_units}
 use Rattle.stream_mending.specs.Mended.{told}
-use Rattle.unit_json.specs.Seen.{stream_seen}
-use Rattle.unit_json.specs.StreamLines.{stream_outcomes}
+use Rattle.unit_printing.specs.Seen.{stream_seen}
+use Rattle.unit_printing.specs.StreamLines.{stream_outcomes}
 use Rattle.stream_check.specs.Counts.{counted, counts_of}
 use Rattle.stream_check.specs.Problems.{problems_from}
 use Rattle.stream_check.specs.Unread.{left_out_of}

@@ -2,7 +2,7 @@
 use Rattle.std.specs.Prelude.{ℕ, ◌+◌, ◌%◌, ◌==◌, ◌++◌, Bool, List, [], ◌∷◌, map, filter, Result, Ok, Err, if◌then◌else◌}
 use Rattle.annexb.specs.NalUnit.{is_slice}
 use Rattle.h264_controls.specs.declared.request.Request.{Request}
-use Rattle.param_set_types.specs.FrameNumbers.{max_frame_num}
+use Rattle.h264_types.specs.FrameNumbers.{max_frame_num}
 use Rattle.unit_outcomes.specs.Numbers.{number_of}
 use Rattle.unit_outcomes.specs.declared.outcome.Outcome.{Outcome}
 use Rattle.unit_outcomes.specs.declared.outcome.Outcome.TheVariants as outcome

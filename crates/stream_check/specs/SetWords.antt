@@ -1,12 +1,12 @@
 -- Sequence parameter sets in words (7.4.2.1.1, annex A).
 use Rattle.std.specs.Prelude.{ℕ, ◌+◌, ◌/◌, ◌%◌, ◌==◌, ◌&&◌, ◌++◌, Bool, List, codes, decimal, slice_index_or, false, if◌then◌else◌}
-use Rattle.param_set_types.specs.Profiles.{is_high}
-use Rattle.param_set_types.specs.declared.sps.Sps.{Sps}
-use Rattle.param_set_types.specs.declared.sps.ChromaFormat.{ChromaFormat}
-use Rattle.param_set_types.specs.declared.sps.ChromaFormat.TheVariants.{Monochrome, Yuv420, Yuv422}
-use Rattle.param_set_types.specs.declared.sps.PicOrderCntType.{PicOrderCntType}
-use Rattle.param_set_types.specs.declared.sps.PicOrderCntType.TheVariants as order
-use Rattle.sps_cropping.specs.declared.size.Size.{Size}
+use Rattle.h264_types.specs.Profiles.{is_high}
+use Rattle.h264_types.specs.declared.param_sets.sps.Sps.{Sps}
+use Rattle.h264_types.specs.declared.param_sets.sps.ChromaFormat.{ChromaFormat}
+use Rattle.h264_types.specs.declared.param_sets.sps.ChromaFormat.TheVariants.{Monochrome, Yuv420, Yuv422}
+use Rattle.h264_types.specs.declared.param_sets.sps.PicOrderCntType.{PicOrderCntType}
+use Rattle.h264_types.specs.declared.param_sets.sps.PicOrderCntType.TheVariants as order
+use Rattle.param_sets.specs.declared.cropping.size.Size.{Size}
 use Rattle.stream_check.specs.declared.set_words.SetWords.{SetWords}
 use Rattle.stream_check.specs.declared.set_words.Level.{Level}
 use Rattle.stream_check.specs.declared.set_words.Profile.{Profile}

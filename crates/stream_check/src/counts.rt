@@ -2,16 +2,16 @@
 
 ghost use Rattle.std.specs.Prelude.{◌≡◌, ◌+◌, count_by, IfOk, if◌then◌else◌};
 ghost use Rattle.std.specs.List.{list_any};
-ghost use Rattle.doubts.specs.SeenUnits.{is_idr_picture};
+ghost use Rattle.unit_outcomes.specs.SeenUnits.{is_idr_picture};
 ghost use Rattle.frame_requests.specs.FrameFlags.{is_b, is_p};
 ghost use Rattle.stream_check.specs.Counts.{begins_period, counted, counts_of, frames_of, has_fault, has_no_picture, is_bipredicted, is_intra, is_predicted, is_so, is_valid, longest_period, most_frames, slices_in, slices_of};
 
-use doubts::{Doubt, is_idr_picture};
 use h264_controls::Request;
+use h264_types::slice_headers::SliceType;
 use serde::Serialize;
-use slice_header_types::SliceType;
 use std::alloc::AllocError;
 use unit_outcomes::Outcome;
+use unit_outcomes::doubts::{Doubt, is_idr_picture};
 
 /// What is counted of a stream.
 #[derive(Clone, Copy, Serialize)]

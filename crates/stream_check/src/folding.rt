@@ -5,11 +5,11 @@ ghost use Rattle.access_unit.specs.Rooms.{most_units};
 ghost use Rattle.request_core.specs.Fold.{outcomes_of};
 ghost use Rattle.request_core.specs.States.{no_units};
 ghost use Rattle.stream_check.specs.Problems.{problems_from};
-ghost use Rattle.unit_json.specs.StreamLines.{numbered_from};
+ghost use Rattle.unit_printing.specs.StreamLines.{numbered_from};
 
 use crate::problems::{Problem, Problems};
 use access_unit::Unit;
-use pictures::AuId;
+use h264_types::pictures::AuId;
 use request_core::{State, Steps, step};
 use std::alloc::{AllocError, Global};
 use unit_outcomes::Outcome;

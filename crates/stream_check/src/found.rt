@@ -1,9 +1,9 @@
 //! What is found of a file.
 
 ghost use Rattle.std.specs.Prelude.{◌≡◌, ◌==◌, ◌↔◌, IfOk, IsTrue};
-ghost use Rattle.file_kinds.specs.Kinds.{kind_of as kind_of_text};
+ghost use Rattle.stream_reasons.specs.Kinds.{kind_of as kind_of_text};
 ghost use Rattle.stream_mending.specs.Mended.{told};
-ghost use Rattle.unit_json.specs.StreamLines.{stream_outcomes};
+ghost use Rattle.unit_printing.specs.StreamLines.{stream_outcomes};
 ghost use Rattle.access_unit.specs.Rooms.{IsStreamRefused, most_units};
 ghost use Rattle.std.specs.Prelude.{◌≤◌, length};
 ghost use Rattle.stream_check.specs.Found.{IsCheckOf, IsFine, IsFound, IsTaken, is_fine};
@@ -20,9 +20,9 @@ use crate::telling::told;
 use crate::unread::{Unread, left_out};
 use access_unit::{MOST_UNITS, ReadFault, Refusal, Unit, read_units};
 use bytes::Bytes;
-use file_kinds::{FileKind, kind_of};
 use std::alloc::{AllocError, Global};
 use std::thread::Threads;
+use stream_reasons::file_kinds::{FileKind, kind_of};
 
 /// What a file is found to be.
 #[derive(Drop)]

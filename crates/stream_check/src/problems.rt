@@ -8,8 +8,8 @@ ghost use Rattle.stream_check.specs.Problems.{gap_before, is_gap, last_after, la
 
 use crate::places::Place;
 use access_unit::Unit;
-use base_types::Shared;
-use pictures::AuId;
+use h264_types::base::Shared;
+use h264_types::pictures::AuId;
 use slice_reading::{Slice, Stop, Tables, read_slices, tables_with};
 use std::alloc::{AllocError, Global};
 use stream_reasons::Reason;

@@ -3,8 +3,8 @@
 ghost use Rattle.std.specs.Prelude.{◌≡◌, Some};
 ghost use Rattle.stream_check.specs.SetWords.{chroma_words, is_1b, level_of, level_text, order_count_type, profile_of, profile_words, set_words};
 
-use param_set_types::{ChromaFormat, PicOrderCntType, Sps};
-use sps_cropping::Size;
+use h264_types::param_sets::{ChromaFormat, PicOrderCntType, Sps};
+use param_sets::cropping::Size;
 use std::fmt;
 use std::fmt::{Display, Formatter, Write};
 

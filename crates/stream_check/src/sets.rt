@@ -3,8 +3,8 @@
 use crate::set_words::SetWords;
 use access_unit::Unit;
 use annexb::{Nal, payload};
+use param_sets::cropping::cropped_size;
 use param_sets::{SetFault, read_sps};
-use sps_cropping::cropped_size;
 use std::alloc::{AllocError, Global};
 
 /// nal_unit_type of a sequence parameter set (table 7-1).

@@ -3,9 +3,9 @@
 ghost use Rattle.std.specs.Prelude.{◌≤◌, length};
 ghost use Rattle.access_unit.specs.Rooms.{most_units};
 
-use doubts::Doubt;
-use pictures::AuId;
+use h264_types::pictures::AuId;
 use std::alloc::{AllocError, Global};
+use unit_outcomes::doubts::Doubt;
 
 /// Units in doubt that follow one break, from the first of them up to the last.
 #[derive(Clone, Copy)]

@@ -1,6 +1,6 @@
 //! How many surfaces a decoder needs that shows pictures in output order (C.4).
 
-use pictures::AuId;
+use h264_types::pictures::AuId;
 use std::alloc::{AllocError, Global};
 use unit_outcomes::{Outcome, Plan};
 

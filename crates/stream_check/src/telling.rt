@@ -2,15 +2,15 @@
 
 ghost use Rattle.std.specs.Prelude.{◌≡◌, ◌≤◌, length, map, IfOk};
 ghost use Rattle.access_unit.specs.Rooms.{most_units};
-ghost use Rattle.doubts.specs.InDoubt.{AreDoubts};
-ghost use Rattle.doubts.specs.References.{is_of_reference};
-ghost use Rattle.unit_json.specs.Seen.{ids_from, stream_seen};
+ghost use Rattle.unit_outcomes.specs.InDoubt.{AreDoubts};
+ghost use Rattle.unit_outcomes.specs.References.{is_of_reference};
+ghost use Rattle.unit_printing.specs.Seen.{ids_from, stream_seen};
 
 use access_unit::Unit;
-use doubts::{Doubt, doubts};
-use pictures::AuId;
+use h264_types::pictures::AuId;
 use std::alloc::{AllocError, Global};
 use unit_outcomes::Outcome;
+use unit_outcomes::doubts::{Doubt, doubts};
 
 /// What is told of each unit of a stream with these outcomes, whose ids are 1, 2, 3 and so on.
 pub(crate) fn told(

@@ -11,7 +11,7 @@ use Rattle.stream_edits.specs.declared.edits.Edit.{Edit}
 use Rattle.stream_edits.specs.declared.edits.Edit.TheVariants.{Insert, Delete, Replace}
 use Rattle.stream_edits.specs.Streams.{Stream, ids_of, place_among, place_of}
 use Rattle.stream_edits.specs.Edits.{Register, no_units, Makes, Replays, Deletes, Replaces}
-use Rattle.changed_units.specs.Units.{AreDifferent}
+use Rattle.picture_keys.specs.Units.{AreDifferent}
 use Rattle.stream_edits.specs.Ids.{units_with, HasIds}
 
 -- a sum over a list with an item more, with one fewer, and with another in its place

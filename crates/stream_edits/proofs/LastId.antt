@@ -7,7 +7,7 @@ use Rattle.std.proofs.lemmas.Bool.{lt-ltb}
 use Rattle.std.proofs.Math.Seq.{split_at}
 use Rattle.std.proofs.lemmas.List.{length-append, length-take-le}
 use Rattle.std.proofs.lemmas.List.Sums.{sum_by-append, sum_by-cons}
-use Rattle.changed_units.specs.Units.{AreDifferent}
+use Rattle.picture_keys.specs.Units.{AreDifferent}
 use Rattle.stream_edits.specs.Streams.{place_among}
 
 eqb-same : (n : ℕ) → eqb n n ≡ true

@@ -7,3 +7,7 @@ pub mod Grouped
 pub mod Drafted
 pub mod OneUnit
 pub mod Hashed
+pub mod SnapshotsAccepted
+mod None
+mod ReadAs
+mod Rising

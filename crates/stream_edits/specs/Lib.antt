@@ -12,3 +12,6 @@ pub mod Journals
 pub mod Ids
 pub mod Names
 pub mod Numbers
+pub mod Snapshots
+pub mod SnapshotsRefusals
+pub mod SnapshotsIds

@@ -1,7 +1,7 @@
 //! What accepted edits come to.
 
 use crate::changes::Change;
-use pictures::AuId;
+use h264_types::pictures::AuId;
 
 /// What an accepted edit comes to.
 #[derive(Debug, Drop)]

@@ -4,7 +4,7 @@ ghost use Rattle.std.specs.Prelude.{◌≡◌, ℕ, List, [], ◌∷◌, IfOk, I
 ghost use Rattle.access_unit.specs.Answers.{IsAccepted};
 ghost use Rattle.stream_edits.specs.declared.edits.Edit.TheVariants.{Insert, Delete, Replace};
 ghost use Rattle.stream_edits.specs.Changes.{IsFor};
-ghost use Rattle.changed_units.specs.Units.{AreDifferent};
+ghost use Rattle.picture_keys.specs.Units.{AreDifferent};
 ghost use Rattle.stream_edits.specs.Refusals.{IsRefused};
 ghost use Rattle.stream_edits.specs.Streams.{ids_of};
 
@@ -15,9 +15,9 @@ use crate::places::{place_of, start_of};
 use crate::read_edit::ReadEdit;
 use crate::refusals::EditRefused;
 use access_unit::MOST_UNITS;
-use base_types::Shared;
+use h264_types::base::Shared;
+use h264_types::pictures::AuId;
 use picture_keys::HashedUnit;
-use pictures::AuId;
 use std::alloc::{AllocError, Global};
 
 /// What the edit comes to, of units with these ids and with so many ids given, or why it is

@@ -4,9 +4,9 @@ ghost use Rattle.std.specs.Prelude.{◌≡◌, ◌+◌, ◌≤◌, length, vec_l
 ghost use Rattle.std.specs.Vec.{vec_capacity};
 ghost use Rattle.stream_edits.specs.Changes.{IsInside, at_of, rest_from, stream_after, units_of};
 
-use base_types::{Shared, replace_range};
+use h264_types::base::{Shared, replace_range};
+use h264_types::pictures::AuId;
 use picture_keys::HashedUnit;
-use pictures::AuId;
 
 /// A change of a stream in one stretch: these units stand in the place of those of the stretch, and
 /// all others stay. A place is that past so many units.

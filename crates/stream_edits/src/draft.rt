@@ -7,7 +7,7 @@ ghost use Rattle.stream_edits.specs.Common.{IsFront, IsRest};
 ghost use Rattle.stream_edits.specs.Drafts.{IsDraft, IsMade, register_of};
 ghost use Rattle.stream_edits.specs.Edits.{Register};
 ghost use Rattle.stream_edits.specs.Groups.{IsForAll, IsSized};
-ghost use Rattle.changed_units.specs.Units.{AreDifferent};
+ghost use Rattle.picture_keys.specs.Units.{AreDifferent};
 ghost use Rattle.stream_edits.specs.Refusals.{IsRefused};
 ghost use Rattle.stream_edits.specs.Streams.{ids_of};
 
@@ -17,9 +17,9 @@ use crate::changes::Change;
 use crate::narrowing::{common_front, common_rest};
 use crate::read_edit::ReadEdit;
 use crate::refusals::EditRefused;
-use base_types::{Shared, replace_range};
+use h264_types::base::{Shared, replace_range};
+use h264_types::pictures::AuId;
 use picture_keys::HashedUnit;
-use pictures::AuId;
 use std::alloc::{AllocError, Global};
 
 /// A stream beside the one that is kept, on which the edits of a group are made one after the

@@ -3,7 +3,7 @@
 ghost use Rattle.std.specs.Prelude.{◌≡◌, IfOk};
 
 use bytes::Bytes;
-use pictures::AuId;
+use h264_types::pictures::AuId;
 use std::alloc::AllocError;
 
 /// Where a unit is inserted.

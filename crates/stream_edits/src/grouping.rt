@@ -14,9 +14,9 @@ use crate::draft::Draft;
 use crate::group_refused::GroupRefused;
 use crate::read_edit::ReadEdit;
 use crate::read_group::ReadGroup;
-use base_types::Shared;
+use h264_types::base::Shared;
+use h264_types::pictures::AuId;
 use picture_keys::HashedUnit;
-use pictures::AuId;
 use std::alloc::Global;
 
 /// What the group comes to, of units with these ids and with so many ids given, or why it is

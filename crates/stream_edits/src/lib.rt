@@ -23,16 +23,17 @@ mod read_edit;
 mod read_group;
 mod receipts;
 mod refusals;
+pub mod snapshots;
 
 pub use acceptance::{AcceptedEdit, AcceptedGroup};
 pub use accepting::change_of;
-pub use changed_units::Changed;
 pub use changes::Change;
 pub use edits::{Edit, Place};
 pub use group_refused::GroupRefused;
 pub use grouping::change_of_group;
 pub use journal_entry::JournalEntry;
 pub use laws::ids_differ;
+pub use picture_keys::changed_units::Changed;
 pub use places::place_of;
 pub use read_edit::ReadEdit;
 pub use read_group::{MOST_EDITS, ReadGroup};

@@ -3,9 +3,9 @@
 ghost use Rattle.std.specs.Prelude.{◌≡◌, ◌↔◌, ◌≤◌, length, IsTrue};
 ghost use Rattle.stream_edits.specs.Common.{IsFront, IsLongestFront, IsLongestRest, IsRest};
 
-use base_types::Shared;
+use h264_types::base::Shared;
+use h264_types::pictures::AuId;
 use picture_keys::HashedUnit;
-use pictures::AuId;
 
 /// How many units at the start of both are the same, where so many are known to be.
 pub(crate) fn common_front(

@@ -1,11 +1,11 @@
 //! Places of units in a stream.
 
 ghost use Rattle.std.specs.Prelude.{◌≡◌, ◌<◌, ◌≤◌, length, IfSome, Some};
-ghost use Rattle.changed_units.specs.Units.{AreDifferent};
+ghost use Rattle.picture_keys.specs.Units.{AreDifferent};
 ghost use Rattle.stream_edits.specs.Streams.{place_among, start_among};
 
 use crate::edits::Place;
-use pictures::AuId;
+use h264_types::pictures::AuId;
 
 /// How far from the place of its number an id is looked for first.
 const NEAR: usize = 64;

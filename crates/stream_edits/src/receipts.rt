@@ -4,8 +4,8 @@ ghost use Rattle.std.specs.Prelude.{◌≡◌};
 ghost use Rattle.stream_edits.specs.Streams.{place_after};
 
 use crate::edits::Place;
-use changed_units::Changed;
-use pictures::AuId;
+use h264_types::pictures::AuId;
+use picture_keys::changed_units::Changed;
 
 /// What an accepted edit answers.
 #[derive(Clone, Copy, Debug, PartialEq, Eq)]

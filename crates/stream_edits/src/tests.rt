@@ -3,16 +3,16 @@
 //! in session_tests.
 
 ghost use Rattle.std.specs.Prelude.{◌≡◌, ◌+◌, ◌<◌, ◌^◌, IfOk, OnOk};
-ghost use Rattle.changed_units.specs.Units.{AreDifferent};
+ghost use Rattle.picture_keys.specs.Units.{AreDifferent};
 ghost use Rattle.stream_edits.specs.Ids.{HasIds};
 ghost use Rattle.stream_edits.specs.Streams.{ids_of};
 
 use crate::{Edit, EditRefused, Place, change_of};
 use access_unit::read_shared;
-use base_types::Shared;
 use bytes::Bytes;
+use h264_types::base::Shared;
+use h264_types::pictures::AuId;
 use picture_keys::HashedUnit;
-use pictures::AuId;
 use std::alloc::{AllocError, Global};
 use std::process::Abort;
 use std::test::Fail;

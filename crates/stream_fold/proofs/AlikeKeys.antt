@@ -4,10 +4,10 @@ use Rattle.std.specs.Prelude.{◌==◌, slice_get, option_and_then}
 use Rattle.std.proofs.lemmas.List.{map-append}
 use Rattle.std.proofs.lemmas.Bool.{eq-eqb}
 use Rattle.std.proofs.lemmas.List.Elements.{All-nil, All-cons, All-head, All-tail, All-weaker}
-use Rattle.slice_header_types.specs.Pictures.{is_idr}
-use Rattle.slice_header_types.specs.declared.slice_headers.SliceHeader.{SliceHeader}
-use Rattle.pictures.specs.declared.counts.Counts.{Counts}
-use Rattle.pictures.specs.declared.frames.Frame.{Frame}
+use Rattle.h264_types.specs.Pictures.{is_idr}
+use Rattle.h264_types.specs.declared.slice_headers.slice_headers.SliceHeader.{SliceHeader}
+use Rattle.h264_types.specs.declared.pictures.counts.Counts.{Counts}
+use Rattle.h264_types.specs.declared.pictures.frames.Frame.{Frame}
 use Rattle.h264_controls.specs.declared.request.Request.{Request}
 use Rattle.h264_controls.specs.References.{references}
 use Rattle.decode_jobs.specs.Inputs.{entries_of}

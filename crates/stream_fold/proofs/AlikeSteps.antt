@@ -2,10 +2,10 @@
 -- have the frames after it.
 use Rattle.std.proofs.Common.{◌≡◌, ℕ, List, [], ◌∷◌, map, filter, Option, Some, Result, Ok, Err, refl, subst}
 use Rattle.annexb.specs.NalUnit.{is_slice}
-use Rattle.pictures.specs.declared.counts.Counts.{Counts}
-use Rattle.pictures.specs.MarkedFrames.{Marked}
-use Rattle.order_count.specs.Counting.{counts_of}
-use Rattle.ref_marking.specs.MarksAfter.{marks_after}
+use Rattle.h264_types.specs.declared.pictures.counts.Counts.{Counts}
+use Rattle.h264_types.specs.MarkedFrames.{Marked}
+use Rattle.slice_decoding.specs.Counting.{counts_of}
+use Rattle.slice_decoding.specs.MarksAfter.{marks_after}
 use Rattle.unit_outcomes.specs.declared.validity_fault.ValidityFault.{ValidityFault}
 use Rattle.unit_outcomes.specs.declared.outcome.Outcome.{Outcome}
 use Rattle.unit_outcomes.specs.declared.outcome.Outcome.TheVariants as outcomes

@@ -1,6 +1,6 @@
 -- Results one after the other, where the last is a value.
 use Rattle.std.proofs.Common.{◌≡◌, Result, Ok, Err, refl}
-use Rattle.base_types.specs.Chains.{◌>>=◌}
+use Rattle.h264_types.specs.Chains.{◌>>=◌}
 
 -- there is a value before it
 pub then_ok : {A B E : Type 0} (first : Result A E) (next : A → Result B E) (last : B) → (first >>= next) ≡ Ok last

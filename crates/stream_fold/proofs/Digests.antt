@@ -1,20 +1,20 @@
 -- The bytes of a plan's requests are those of its unit's slices.
 use Rattle.std.proofs.Common.{◌≡◌, ℕ, List, [], ◌∷◌, map, filter, Option, None, Some, Result, Ok, Err, refl, sym, ap, ◌∙◌, subst}
-use Rattle.base_types.specs.Chains.{◌>>=◌}
-use Rattle.param_set_types.specs.declared.sps.Sps.{Sps}
-use Rattle.param_set_types.specs.declared.pps.Pps.{Pps}
+use Rattle.h264_types.specs.Chains.{◌>>=◌}
+use Rattle.h264_types.specs.declared.param_sets.sps.Sps.{Sps}
+use Rattle.h264_types.specs.declared.param_sets.pps.Pps.{Pps}
 use Rattle.annexb.specs.NalUnit.{is_slice}
-use Rattle.slice_header_types.specs.declared.slice_headers.SliceHeader.{SliceHeader}
+use Rattle.h264_types.specs.declared.slice_headers.slice_headers.SliceHeader.{SliceHeader}
 use Rattle.slice_header.specs.declared.fault.HeaderFault.{HeaderFault}
 use Rattle.slice_header.specs.declared.front.HeaderFront.{HeaderFront}
 use Rattle.slice_header.specs.Fronts.{front_at}
 use Rattle.slice_header.specs.SliceHeaders.{header_at}
-use Rattle.pictures.specs.declared.counts.Counts.{Counts}
-use Rattle.pictures.specs.declared.frames.Frame.{Frame}
-use Rattle.order_count.specs.Counting.{counts_of}
-use Rattle.ref_marking.specs.MarksAfter.{marks_after}
-use Rattle.ref_lists.specs.declared.fault.ListFault.{ListFault}
-use Rattle.ref_lists.specs.ReferenceLists.{lists_of}
+use Rattle.h264_types.specs.declared.pictures.counts.Counts.{Counts}
+use Rattle.h264_types.specs.declared.pictures.frames.Frame.{Frame}
+use Rattle.slice_decoding.specs.Counting.{counts_of}
+use Rattle.slice_decoding.specs.MarksAfter.{marks_after}
+use Rattle.slice_decoding.specs.declared.ref_lists.fault.ListFault.{ListFault}
+use Rattle.slice_decoding.specs.ReferenceLists.{lists_of}
 use Rattle.unit_outcomes.specs.declared.validity_fault.ValidityFault.{ValidityFault}
 use Rattle.unit_outcomes.specs.declared.outcome.Outcome.{Outcome}
 use Rattle.unit_outcomes.specs.declared.outcome.Outcome.TheVariants as outcomes

@@ -7,16 +7,16 @@ use Rattle.std.specs.Option.{option_or}
 use Rattle.std.proofs.lemmas.Bool.{or_right}
 use Rattle.std.proofs.lemmas.List.Elements.{All-nil, All-cons}
 use Rattle.annexb.specs.NalUnit.{nal_unit_type, is_slice}
-use Rattle.param_set_types.specs.declared.sps.Sps.{Sps}
-use Rattle.param_set_types.specs.declared.pps.Pps.{Pps}
-use Rattle.slice_header_types.specs.declared.slice_types.SliceType.{SliceType}
-use Rattle.slice_header_types.specs.declared.slice_types.SliceType.TheVariants.{P, B, I, Sp, Si}
-use Rattle.slice_header_types.specs.declared.slice_headers.SliceHeader.{SliceHeader}
-use Rattle.slice_header_types.specs.Pictures as headers
+use Rattle.h264_types.specs.declared.param_sets.sps.Sps.{Sps}
+use Rattle.h264_types.specs.declared.param_sets.pps.Pps.{Pps}
+use Rattle.h264_types.specs.declared.slice_headers.slice_types.SliceType.{SliceType}
+use Rattle.h264_types.specs.declared.slice_headers.slice_types.SliceType.TheVariants.{P, B, I, Sp, Si}
+use Rattle.h264_types.specs.declared.slice_headers.slice_headers.SliceHeader.{SliceHeader}
+use Rattle.h264_types.specs.Pictures as headers
 use Rattle.slice_header.specs.Fronts.{slice_type_at}
 use Rattle.slice_header.specs.SliceHeaders.{header_at}
 use Rattle.access_unit.specs.Refusals.{Row, first_shown, header_rows, set_rows, is_switching, is_inter, is_idr, order_rows, refusal_at, first_refusal, refusal_of}
-use Rattle.ref_lists.specs.ReferenceLists.{has_list_0}
+use Rattle.slice_decoding.specs.ReferenceLists.{has_list_0}
 use Rattle.stream_fold.proofs.SliceHeaders.{header_type}
 
 -- a NAL unit that isn't refused for the type of its slice

@@ -1,7 +1,7 @@
 -- The keys of units depend on those of the marked frames alone.
 use Rattle.std.proofs.Common.{◌≡◌, ℕ, zero, suc, List, [], ◌∷◌, map, take, drop, refl, sym, subst}
 use Rattle.std.proofs.lemmas.List.Elements.{All-nil, All-cons, All-head, All-tail}
-use Rattle.pictures.specs.declared.frames.Frame.{Frame}
+use Rattle.h264_types.specs.declared.pictures.frames.Frame.{Frame}
 use Rattle.request_core.specs.States.{FoldState, no_units, marked_ids}
 use Rattle.request_core.specs.Fold.{fold_step}
 use Rattle.request_core.specs.Agreement.{Stream, state_from}

@@ -5,26 +5,26 @@ use Rattle.std.specs.Prelude.{ℤ, ◌==◌, nat_le, nat_lt, length, filter_map,
 use Rattle.std.specs.Int.{int_min}
 use Rattle.std.specs.List.{reduce}
 use Rattle.std.proofs.lemmas.List.Elements.{All-nil, All-cons, All-head, All-tail, All-append, All-push, All-filter}
-use Rattle.base_types.specs.Chains.{◌>>=◌}
-use Rattle.param_set_types.specs.declared.sps.Sps.{Sps}
-use Rattle.slice_header_types.specs.declared.slice_headers.SliceHeader.{SliceHeader}
-use Rattle.slice_header_types.specs.declared.dec_ref_pic_marking.DecRefPicMarking.{DecRefPicMarking}
-use Rattle.slice_header_types.specs.declared.dec_ref_pic_marking.DecRefPicMarking.TheVariants.{Idr, SlidingWindow, Adaptive}
-use Rattle.slice_header_types.specs.declared.dec_ref_pic_marking.MemoryManagementControlOperation.{MemoryManagementControlOperation}
-use Rattle.slice_header_types.specs.declared.dec_ref_pic_marking.MemoryManagementControlOperation.TheVariants.{FreeShortTerm, FreeLongTerm, AssignLongTerm, LimitLongTerm, FreeAll, CurrentLongTerm}
-use Rattle.slice_header_types.specs.Pictures.{is_reference}
-use Rattle.pictures.specs.declared.counts.Counts.{Counts}
-use Rattle.pictures.specs.declared.frames.Frame.{Frame}
-use Rattle.pictures.specs.declared.frames.Term.{Term}
-use Rattle.pictures.specs.declared.frames.Term.TheVariants.{ShortTerm, LongTerm}
-use Rattle.pictures.specs.MarkedFrames.{Marked, most_frames, holds, without_idx, as_long_term}
-use Rattle.pictures.specs.PicNums.{pic_num}
-use Rattle.ref_marking.specs.declared.fault.MarkFault.{MarkFault}
-use Rattle.ref_marking.specs.declared.fault.MarkFault.TheVariants.{BadMarking, NoShortTerm, TooManyReferences}
-use Rattle.ref_marking.specs.Steps.{Place}
-use Rattle.ref_marking.specs.Operations.{pic_num_x, max_idx, is_below}
-use Rattle.ref_marking.specs.Marking.{current_frame, idr_marked, contradict, current_idx}
-use Rattle.ref_marking.specs.MarksAfter.{after_frame, first, has_pic_num, allows_idx, freed, short_term_freed, long_term_freed, assigned, long_term_assigned, long_term_limited, holder_freed, operated, all_operated, least_freed, window_slid, joined, joined_as, adaptively_marked, reference_marked, marks_after}
+use Rattle.h264_types.specs.Chains.{◌>>=◌}
+use Rattle.h264_types.specs.declared.param_sets.sps.Sps.{Sps}
+use Rattle.h264_types.specs.declared.slice_headers.slice_headers.SliceHeader.{SliceHeader}
+use Rattle.h264_types.specs.declared.slice_headers.dec_ref_pic_marking.DecRefPicMarking.{DecRefPicMarking}
+use Rattle.h264_types.specs.declared.slice_headers.dec_ref_pic_marking.DecRefPicMarking.TheVariants.{Idr, SlidingWindow, Adaptive}
+use Rattle.h264_types.specs.declared.slice_headers.dec_ref_pic_marking.MemoryManagementControlOperation.{MemoryManagementControlOperation}
+use Rattle.h264_types.specs.declared.slice_headers.dec_ref_pic_marking.MemoryManagementControlOperation.TheVariants.{FreeShortTerm, FreeLongTerm, AssignLongTerm, LimitLongTerm, FreeAll, CurrentLongTerm}
+use Rattle.h264_types.specs.Pictures.{is_reference}
+use Rattle.h264_types.specs.declared.pictures.counts.Counts.{Counts}
+use Rattle.h264_types.specs.declared.pictures.frames.Frame.{Frame}
+use Rattle.h264_types.specs.declared.pictures.frames.Term.{Term}
+use Rattle.h264_types.specs.declared.pictures.frames.Term.TheVariants.{ShortTerm, LongTerm}
+use Rattle.h264_types.specs.MarkedFrames.{Marked, most_frames, holds, without_idx, as_long_term}
+use Rattle.h264_types.specs.PicNums.{pic_num}
+use Rattle.slice_decoding.specs.declared.ref_marking.fault.MarkFault.{MarkFault}
+use Rattle.slice_decoding.specs.declared.ref_marking.fault.MarkFault.TheVariants.{BadMarking, NoShortTerm, TooManyReferences}
+use Rattle.slice_decoding.specs.Steps.{Place}
+use Rattle.slice_decoding.specs.Operations.{pic_num_x, max_idx, is_below}
+use Rattle.slice_decoding.specs.Marking.{current_frame, idr_marked, contradict, current_idx}
+use Rattle.slice_decoding.specs.MarksAfter.{after_frame, first, has_pic_num, allows_idx, freed, short_term_freed, long_term_freed, assigned, long_term_assigned, long_term_limited, holder_freed, operated, all_operated, least_freed, window_slid, joined, joined_as, adaptively_marked, reference_marked, marks_after}
 
 -- what holds of the ids of frames
 module _ (P : ℕ → Type 0) where

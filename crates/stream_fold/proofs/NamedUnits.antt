@@ -3,22 +3,22 @@ use Rattle.std.proofs.Common.{◌≡◌, ℕ, zero, suc, ◌+◌, ◌<◌, Bool,
 use Rattle.std.specs.Prelude.{slice_get}
 use Rattle.std.proofs.lemmas.Bool.{cases_Bool}
 use Rattle.std.proofs.lemmas.List.Elements.{All-nil, All-head, All-tail, All-append, All-weaker}
-use Rattle.param_set_types.specs.declared.sps.Sps.{Sps}
-use Rattle.slice_header_types.specs.declared.slice_types.SliceType.{SliceType}
-use Rattle.slice_header_types.specs.declared.slice_types.SliceType.TheVariants.{P, B, I, Sp, Si}
-use Rattle.slice_header_types.specs.declared.slice_headers.SliceHeader.{SliceHeader}
-use Rattle.slice_header_types.specs.Pictures.{is_idr}
-use Rattle.pictures.specs.declared.counts.Counts.{Counts}
-use Rattle.pictures.specs.declared.frames.Frame.{Frame}
-use Rattle.pictures.specs.MarkedFrames.{Marked}
+use Rattle.h264_types.specs.declared.param_sets.sps.Sps.{Sps}
+use Rattle.h264_types.specs.declared.slice_headers.slice_types.SliceType.{SliceType}
+use Rattle.h264_types.specs.declared.slice_headers.slice_types.SliceType.TheVariants.{P, B, I, Sp, Si}
+use Rattle.h264_types.specs.declared.slice_headers.slice_headers.SliceHeader.{SliceHeader}
+use Rattle.h264_types.specs.Pictures.{is_idr}
+use Rattle.h264_types.specs.declared.pictures.counts.Counts.{Counts}
+use Rattle.h264_types.specs.declared.pictures.frames.Frame.{Frame}
+use Rattle.h264_types.specs.MarkedFrames.{Marked}
 use Rattle.h264_controls.specs.References.{references}
-use Rattle.ref_lists.specs.InitialLists.{Entries}
-use Rattle.ref_lists.specs.ReferenceLists.{has_list_0, has_list_1, active_l0, active_l1, IsMarked, lists_of}
-use Rattle.ref_lists.proofs.ListLaws.{length-lists_of, marked-lists_of}
+use Rattle.slice_decoding.specs.InitialLists.{Entries}
+use Rattle.slice_decoding.specs.ReferenceLists.{has_list_0, has_list_1, active_l0, active_l1, IsMarked, lists_of}
+use Rattle.slice_decoding.proofs.ListLaws.{length-lists_of, marked-lists_of}
 use Rattle.slice_reading.specs.Slices.{SliceRead}
 use Rattle.request_core.specs.Requests.{ListedSlice}
 use Rattle.request_core.specs.Fold.{with_lists, listed}
-use Rattle.ref_lists.specs.declared.fault.ListFault.{ListFault}
+use Rattle.slice_decoding.specs.declared.ref_lists.fault.ListFault.{ListFault}
 use Rattle.picture_keys.specs.Known.{Known, key_at}
 use Rattle.picture_keys.specs.Decodable.{NamesKnown}
 use Rattle.stream_fold.proofs.KnownUnits.{IsKnown, AreKnown}

@@ -4,12 +4,12 @@ use Rattle.std.proofs.Common.{◌≡◌, ℕ, Bool, true, List, [], ◌∷◌, m
 use Rattle.std.proofs.lemmas.List.Elements.{All-filter, All-weaker}
 use Rattle.annexb.specs.NalUnit.{is_slice}
 use Rattle.access_unit.specs.Refusals.{refusal_of}
-use Rattle.pictures.specs.declared.counts.Counts.{Counts}
-use Rattle.pictures.specs.MarkedFrames.{Marked}
-use Rattle.order_count.specs.Counting.{counts_of}
-use Rattle.ref_marking.specs.declared.fault.MarkFault.{MarkFault}
-use Rattle.ref_marking.specs.declared.fault.MarkFault.TheVariants.{BadMarking, NoShortTerm, TooManyReferences}
-use Rattle.ref_marking.specs.MarksAfter.{marks_after}
+use Rattle.h264_types.specs.declared.pictures.counts.Counts.{Counts}
+use Rattle.h264_types.specs.MarkedFrames.{Marked}
+use Rattle.slice_decoding.specs.Counting.{counts_of}
+use Rattle.slice_decoding.specs.declared.ref_marking.fault.MarkFault.{MarkFault}
+use Rattle.slice_decoding.specs.declared.ref_marking.fault.MarkFault.TheVariants.{BadMarking, NoShortTerm, TooManyReferences}
+use Rattle.slice_decoding.specs.MarksAfter.{marks_after}
 use Rattle.decode_jobs.specs.Inputs.{are_of_one_picture}
 use Rattle.unit_outcomes.specs.declared.validity_fault.ValidityFault.{ValidityFault}
 use Rattle.unit_outcomes.specs.declared.outcome.Outcome.{Outcome}

@@ -1,14 +1,14 @@
 -- The header of a slice that is read is the one that stands in its NAL unit.
 use Rattle.std.proofs.Common.{◌≡◌, ℕ, true, false, List, Option, None, Some, Result, Ok, Err, refl, subst}
-use Rattle.param_set_types.specs.declared.sps.Sps.{Sps}
-use Rattle.param_set_types.specs.declared.pps.Pps.{Pps}
-use Rattle.slice_header_types.specs.declared.slice_headers.SliceHeader.{SliceHeader}
-use Rattle.slice_header_types.specs.Pictures.{is_idr}
+use Rattle.h264_types.specs.declared.param_sets.sps.Sps.{Sps}
+use Rattle.h264_types.specs.declared.param_sets.pps.Pps.{Pps}
+use Rattle.h264_types.specs.declared.slice_headers.slice_headers.SliceHeader.{SliceHeader}
+use Rattle.h264_types.specs.Pictures.{is_idr}
 use Rattle.slice_header.specs.declared.fault.HeaderFault.{HeaderFault}
 use Rattle.slice_header.specs.declared.front.HeaderFront.{HeaderFront}
 use Rattle.slice_header.specs.Fronts.{front_at}
 use Rattle.slice_header.specs.SliceHeaders.{header_at}
-use Rattle.ref_lists.specs.ReferenceLists.{has_list_0}
+use Rattle.slice_decoding.specs.ReferenceLists.{has_list_0}
 use Rattle.slice_reading.specs.ParameterSets.{ParameterSets, sps_under, pps_under}
 use Rattle.slice_reading.specs.Slices.{SliceRead, with_header, with_sps, with_pps, with_front, slice_at}
 use Rattle.stream_fold.proofs.IntraSlices.{IsAllowed, idr_without_lists}

@@ -5,10 +5,10 @@ use Rattle.expgolomb.specs.declared.fault.CodeFault.{CodeFault}
 use Rattle.expgolomb.specs.declared.fault.CodeFault.TheVariants as code
 use Rattle.expgolomb.specs.Bits.{Place}
 use Rattle.annexb.specs.NalUnit.{nal_unit_type, nal_ref_idc}
-use Rattle.param_set_types.specs.declared.sps.Sps.{Sps}
-use Rattle.param_set_types.specs.declared.pps.Pps.{Pps}
-use Rattle.slice_header_types.specs.declared.slice_headers.SliceHeader.{SliceHeader}
-use Rattle.slice_header_types.specs.SliceTypes.{slice_type_of}
+use Rattle.h264_types.specs.declared.param_sets.sps.Sps.{Sps}
+use Rattle.h264_types.specs.declared.param_sets.pps.Pps.{Pps}
+use Rattle.h264_types.specs.declared.slice_headers.slice_headers.SliceHeader.{SliceHeader}
+use Rattle.h264_types.specs.SliceTypes.{slice_type_of}
 use Rattle.expgolomb.specs.Grammar.{Code}
 use Rattle.expgolomb.specs.Ranges.{any, at_most}
 use Rattle.expgolomb.specs.TableReading.{in_range, checked, code_at, value_at, field_at, rows_at}

@@ -3,8 +3,8 @@
 ghost use Rattle.std.specs.Prelude.{◌≡◌, ◌+◌, ◌^◌, ◌<◌, IfOk, OnErr, OnOk};
 ghost use Rattle.request_core.specs.Fold.{fold_step};
 
+use h264_types::pictures::AuId;
 use picture_keys::{HashedOutcome, HashedUnit};
-use pictures::AuId;
 use request_core::{State, Steps, step};
 use std::alloc::{AllocError, Global};
 

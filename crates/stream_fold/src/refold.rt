@@ -5,9 +5,9 @@ ghost use Rattle.request_core.specs.Agreement.{Stream};
 
 use crate::hashed_step::hashed_step;
 use crate::shares::shares_of;
-use base_types::Shared;
+use h264_types::base::Shared;
+use h264_types::pictures::AuId;
 use picture_keys::{HashedOutcome, HashedUnit};
-use pictures::AuId;
 use request_core::{State, Steps};
 use std::alloc::{AllocError, Global};
 

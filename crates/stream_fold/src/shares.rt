@@ -2,7 +2,7 @@
 
 ghost use Rattle.std.specs.Prelude.{◌≡◌, IfOk};
 
-use base_types::Shared;
+use h264_types::base::Shared;
 use picture_keys::HashedOutcome;
 use std::alloc::{AllocError, Global};
 

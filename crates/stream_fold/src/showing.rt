@@ -3,7 +3,7 @@
 ghost use Rattle.std.specs.Prelude.{◌≡◌, map, IfOk};
 ghost use Rattle.output_order.specs.Shown.{shown_of};
 
-use base_types::Shared;
+use h264_types::base::Shared;
 use output_order::Shown;
 use picture_keys::HashedOutcome;
 use std::alloc::{AllocError, Global};

@@ -9,9 +9,9 @@ ghost use Rattle.stream_mending.specs.Faults.{fault_of, coded_fault, slice_fault
 use crate::forbidden::has_forbidden;
 use crate::why::Why;
 use annexb::{Nal, payload};
+use h264_types::slice_headers::SliceType;
 use param_sets::{SetFault, read_pps, read_sps};
 use slice_header::slice_type;
-use slice_header_types::SliceType;
 use std::alloc::{AllocError, Global};
 
 /// Why the NAL unit of these bytes is left out, if it is. They don't end with a zero.

@@ -1,2 +1,9 @@
 pub mod Reasons
 pub mod Sentences
+pub mod Tables
+pub mod Marks
+pub mod Headers
+pub mod Lengths
+pub mod Plain
+pub mod Kinds
+pub mod Texts

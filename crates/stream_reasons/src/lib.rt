@@ -7,6 +7,7 @@
 //! and cli.
 #![tactic(auto)]
 
+pub mod file_kinds;
 mod reason;
 mod sentences;
 

@@ -12,8 +12,8 @@ use Rattle.stream_edits.specs.Journals.{edits_of}
 use Rattle.stream_edits.proofs.Accepted.{accepted-replayed}
 use Rattle.stream_edits.proofs.GivenIds.{AreDifferent-ids, HasIds-made}
 use Rattle.stream_edits.proofs.Grouped.{HasIds-all, accepted-all, length-all}
-use Rattle.stream_snapshot.specs.Snapshots.{IsAnyOf}
-use Rattle.stream_snapshot.proofs.Accepted.{accepted-snapshot}
+use Rattle.stream_edits.specs.Snapshots.{IsAnyOf}
+use Rattle.stream_edits.proofs.SnapshotsAccepted.{accepted-snapshot}
 use Rattle.stream_session.specs.Kept.{CanStand, History, IsKept}
 use Rattle.stream_session.specs.Moves.{ComeTo}
 

@@ -3,7 +3,7 @@ use Rattle.std.proofs.Common.{◌≡◌, ℕ, List, [], length, refl, ap, sym, �
 use Rattle.std.proofs.lemmas.List.{append-nil}
 use Rattle.std.proofs.lemmas.List.Elements.{All-nil}
 use Rattle.request_core.specs.Fold.{outcomes_of}
-use Rattle.changed_units.specs.declared.changed.Changed.{Changed}
+use Rattle.picture_keys.specs.declared.changed_units.changed.Changed.{Changed}
 use Rattle.picture_store.specs.Stores as stores
 use Rattle.picture_store.specs.Stores.{StoreValue}
 use Rattle.stream_fold.proofs.Decodable.{IsNotRefused}
@@ -12,8 +12,8 @@ use Rattle.stream_edits.specs.Changes.{at_of, rest_from, stream_after, units_of}
 use Rattle.stream_edits.specs.Edits.{Register, no_units}
 use Rattle.stream_edits.specs.Streams.{Stream, ids_of}
 use Rattle.stream_edits.proofs.GivenIds.{AreDifferent-ids}
-use Rattle.stream_snapshot.specs.Snapshots.{IsAnyOf}
-use Rattle.stream_snapshot.proofs.Accepted.{accepted-snapshot}
+use Rattle.stream_edits.specs.Snapshots.{IsAnyOf}
+use Rattle.stream_edits.proofs.SnapshotsAccepted.{accepted-snapshot}
 use Rattle.stream_session.specs.Kept.{CanStand, History, IsKept, machine_of}
 use Rattle.stream_session.specs.Machines.{IsBegun, RefitsTo, empty, store_of}
 use Rattle.stream_session.specs.Moves.{MovesPictures}

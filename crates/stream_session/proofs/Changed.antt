@@ -5,9 +5,9 @@ use Rattle.request_core.specs.States.{FoldState, marked_ids}
 use Rattle.request_core.specs.Fold.{outcomes_of}
 use Rattle.unit_outcomes.specs.declared.outcome.Outcome.{Outcome}
 use Rattle.picture_keys.specs.Known.{keys_of}
-use Rattle.changed_units.specs.declared.changed.Changed.{Changed}
-use Rattle.changed_units.specs.Units.{AreDifferent, compared_units}
-use Rattle.changed_units.specs.Stretches.{IsLeast}
+use Rattle.picture_keys.specs.declared.changed_units.changed.Changed.{Changed}
+use Rattle.picture_keys.specs.Units.{AreDifferent, compared_units}
+use Rattle.picture_keys.specs.Stretches.{IsLeast}
 use Rattle.picture_keys.specs.Decodable.{AllCanDecode}
 use Rattle.picture_keys.specs.Depending.{DependOn}
 use Rattle.stream_fold.specs.Agreement.{becoming}

@@ -5,10 +5,10 @@ use Rattle.std.proofs.lemmas.List.{length-map}
 use Rattle.std.proofs.lemmas.Option.{same_Some, slice_get-map}
 use Rattle.unit_outcomes.specs.declared.outcome.Outcome.{Outcome}
 use Rattle.request_core.specs.Fold.{outcomes_of}
-use Rattle.doubts.specs.References.{is_of_reference}
-use Rattle.doubts.specs.SeenUnits.{HasId, seen_units}
-use Rattle.doubts.specs.InDoubt.{IdsDiffer}
-use Rattle.doubts.proofs.Columns.{seen_at}
+use Rattle.unit_outcomes.specs.References.{is_of_reference}
+use Rattle.unit_outcomes.specs.SeenUnits.{HasId, seen_units}
+use Rattle.unit_outcomes.specs.InDoubt.{IdsDiffer}
+use Rattle.unit_outcomes.proofs.Columns.{seen_at}
 use Rattle.picture_store.specs.Stores.{StoreValue}
 use Rattle.stream_edits.specs.Edits.{Register}
 use Rattle.stream_edits.specs.Streams.{Stream, ids_of}

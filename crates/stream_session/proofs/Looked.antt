@@ -8,7 +8,7 @@ use Rattle.request_core.specs.Fold.{outcomes_of}
 use Rattle.output_order.specs.OutputOrder.{positions_of}
 use Rattle.picture_store.specs.Stores.{StoreValue}
 use Rattle.stream_edits.specs.Edits.{Register}
-use Rattle.changed_units.specs.Units.{AreDifferent}
+use Rattle.picture_keys.specs.Units.{AreDifferent}
 use Rattle.stream_edits.specs.Streams.{Stream, ids_of, place_of}
 use Rattle.stream_edits.proofs.GivenIds.{AreDifferent-ids}
 use Rattle.stream_session.proofs.Accepted.{HasIds-kept}

@@ -1,6 +1,6 @@
 -- What is made by one change is an edit, or a group of them.
 use Rattle.std.proofs.Common.{◌≡◌, ℕ, List, [], ◌∷◌, length, sym, subst, arith}
-use Rattle.changed_units.specs.declared.changed.Changed.{Changed}
+use Rattle.picture_keys.specs.declared.changed_units.changed.Changed.{Changed}
 use Rattle.stream_edits.specs.declared.acceptance.AcceptedEdit.{AcceptedEdit}
 use Rattle.stream_edits.specs.declared.acceptance.AcceptedGroup.{AcceptedGroup}
 use Rattle.stream_edits.specs.declared.edits.Edit.{Edit}

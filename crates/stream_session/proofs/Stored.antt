@@ -1,7 +1,7 @@
 -- What is stored after accepted edits.
 use Rattle.std.proofs.Common.{◌≡◌, ℕ, List, refl, ◌∙◌}
 use Rattle.request_core.specs.Fold.{outcomes_of}
-use Rattle.changed_units.specs.declared.changed.Changed.{Changed}
+use Rattle.picture_keys.specs.declared.changed_units.changed.Changed.{Changed}
 use Rattle.picture_store.specs.Stores.{StoreValue}
 use Rattle.stream_edits.specs.declared.changes.Change.{Change}
 use Rattle.stream_edits.specs.declared.edits.Edit.{Edit}

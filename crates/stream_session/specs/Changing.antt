@@ -4,9 +4,9 @@ use Rattle.std.specs.List.{zip}
 use Rattle.request_core.specs.Fold.{outcomes_of}
 use Rattle.decode_jobs.specs.Keys.{Key}
 use Rattle.picture_keys.specs.Known.{keys_of}
-use Rattle.changed_units.specs.declared.changed.Changed.{Changed}
-use Rattle.changed_units.specs.Units.{ComparedUnit, compared_units}
-use Rattle.changed_units.specs.Stretches.{IsLeast}
+use Rattle.picture_keys.specs.declared.changed_units.changed.Changed.{Changed}
+use Rattle.picture_keys.specs.Units.{ComparedUnit, compared_units}
+use Rattle.picture_keys.specs.Stretches.{IsLeast}
 use Rattle.stream_edits.specs.Streams.{Stream, ids_of}
 
 -- a stream's units as they are compared: by their ids, and by their keys or their faults

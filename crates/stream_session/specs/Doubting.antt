@@ -2,8 +2,8 @@
 use Rattle.std.specs.Prelude.{Bool, List, map}
 use Rattle.unit_outcomes.specs.declared.outcome.Outcome.{Outcome}
 use Rattle.request_core.specs.Fold.{outcomes_of}
-use Rattle.doubts.specs.References.{is_of_reference}
-use Rattle.doubts.specs.SeenUnits.{SeenUnit, seen_units}
+use Rattle.unit_outcomes.specs.References.{is_of_reference}
+use Rattle.unit_outcomes.specs.SeenUnits.{SeenUnit, seen_units}
 use Rattle.stream_edits.specs.Streams.{Stream, ids_of}
 
 -- of each unit, whether nal_ref_idc of its first slice isn't 0 (7.4.1)

@@ -2,7 +2,7 @@
 use Rattle.std.specs.Prelude.{◌≡◌, ◌≤◌, ◌++◌, List, [], ◌∷◌, length, map, All, None}
 use Rattle.access_unit.specs.Refusals.{refusal_of}
 use Rattle.request_core.specs.Fold.{outcomes_of}
-use Rattle.changed_units.specs.Units.{AreDifferent}
+use Rattle.picture_keys.specs.Units.{AreDifferent}
 use Rattle.stream_edits.specs.declared.edits.Edit.{Edit}
 use Rattle.picture_store.specs.declared.stretch.Stretch.{Stretch}
 use Rattle.stream_fold.specs.declared.prepared_change.PreparedChange.{PreparedChange}
@@ -16,7 +16,7 @@ use Rattle.picture_store.specs.Stores.{StoreValue}
 use Rattle.access_unit.specs.Rooms.{most_units}
 use Rattle.stream_edits.specs.Edits.{Register, Replays}
 use Rattle.stream_edits.specs.Streams.{Stream, ids_of}
-use Rattle.stream_snapshot.specs.Snapshots.{IsAnyOf}
+use Rattle.stream_edits.specs.Snapshots.{IsAnyOf}
 use Rattle.stream_session.specs.Machines.{Machine}
 use Rattle.stream_session.specs.Moves.{MakesFew}
 use Rattle.stream_session.specs.Stretches.{IsStretchOf}

@@ -1,6 +1,6 @@
 -- Edits that are made by one change.
 use Rattle.std.specs.Prelude.{◌≡◌, ℕ, ◌+◌, ◌≤◌, List, [], ◌∷◌, ◌++◌, length}
-use Rattle.changed_units.specs.declared.changed.Changed.{Changed}
+use Rattle.picture_keys.specs.declared.changed_units.changed.Changed.{Changed}
 use Rattle.stream_edits.specs.declared.changes.Change.{Change}
 use Rattle.stream_edits.specs.declared.edits.Edit.{Edit}
 use Rattle.picture_store.specs.Stores.{StoreValue}

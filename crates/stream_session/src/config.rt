@@ -1,7 +1,7 @@
 //! What a session is made with.
 
 ghost use Rattle.std.specs.Prelude.{◌≡◌, ◌≤◌, false, true};
-ghost use Rattle.picture_cache.specs.Bounded.{most_room};
+ghost use Rattle.held_pictures.specs.Bounded.{most_room};
 ghost use Rattle.stream_session.specs.declared.config.ConfigFault.TheVariants.{Memory};
 ghost use Rattle.stream_session.specs.Numbers.{number_of_config};
 

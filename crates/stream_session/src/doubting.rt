@@ -1,19 +1,19 @@
 //! Which units of a stream are in doubt, and which break each follows.
 
 ghost use Rattle.std.specs.Prelude.{◌≡◌, ◌⊎◌, ℕ, ◌+◌, ◌<◌, ◌≤◌, length, true, IfOk, slice_get};
-ghost use Rattle.doubts.specs.References.{is_of_reference};
-ghost use Rattle.doubts.specs.SeenUnits.{is_break, tells_idr};
-ghost use Rattle.doubts.specs.InDoubt.{AreDoubts, IdsDiffer, IsDoubt};
-ghost use Rattle.doubts.specs.Walks.{IsBefore};
+ghost use Rattle.unit_outcomes.specs.References.{is_of_reference};
+ghost use Rattle.unit_outcomes.specs.SeenUnits.{is_break, tells_idr};
+ghost use Rattle.unit_outcomes.specs.InDoubt.{AreDoubts, IdsDiffer, IsDoubt};
+ghost use Rattle.unit_outcomes.specs.Walks.{IsBefore};
 ghost use Rattle.stream_session.specs.Doubting.{seen_with};
 
 use access_unit::Unit;
-use base_types::Shared;
-use doubts::{Doubt, Walk, is_break, is_idr_picture};
+use h264_types::base::Shared;
+use h264_types::pictures::AuId;
 use picture_keys::{HashedOutcome, HashedUnit};
-use pictures::AuId;
 use std::alloc::{AllocError, Global};
 use unit_outcomes::Outcome;
+use unit_outcomes::doubts::{Doubt, Walk, is_break, is_idr_picture};
 
 /// What is told of so many units from a place on.
 pub(crate) fn doubts_of(

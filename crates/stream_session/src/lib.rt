@@ -21,7 +21,7 @@ mod showing;
 mod stretches;
 
 pub use config::{Config, ConfigFault};
-pub use doubts::Doubt;
 pub use refusals::NoSuchUnit;
 pub use session::Session;
 pub use showing::{Dropped, Shown};
+pub use unit_outcomes::doubts::Doubt;

@@ -1,7 +1,7 @@
 //! The session: a stream under edits, and the pictures of its units.
 
 ghost use Rattle.std.specs.Prelude.{◌≡◌, ◌<◌, ◌≤◌, ◌↔◌, ℕ, length, None, Some, true, IfOk, IfSome, IsErrOf, OnErr};
-ghost use Rattle.picture_cache.specs.Bounded.{most_room};
+ghost use Rattle.held_pictures.specs.Bounded.{most_room};
 ghost use Rattle.stream_edits.specs.Changes.{IsInside};
 ghost use Rattle.stream_edits.specs.Groups.{most_edits};
 ghost use Rattle.stream_edits.specs.Streams.{place_of};
@@ -20,16 +20,16 @@ use crate::change_costs::ChangeCosts;
 use crate::changing::change_stream;
 use crate::config::{Config, ConfigFault};
 use decode_jobs::{Decoded, Finished, Job};
+use h264_types::pictures::AuId;
 use picture_store::{JobAt, Landing, PictureStore, Returning, TakeRefused};
-use pictures::AuId;
 use std::alloc::{AllocError, Global};
 use std::marker::Model;
+use stream_edits::snapshots::ReadSnapshot;
 use stream_edits::{
     AcceptedEdit, AcceptedGroup, Change, Edit, EditRefused, GroupReceipt, GroupRefused,
     JournalEntry, ReadEdit, ReadGroup, Receipt, change_of, change_of_group, place_of,
 };
 use stream_fold::OrderedFold;
-use stream_snapshot::ReadSnapshot;
 
 /// A stream of access units under edits, with each unit's outcome, and with pictures, which jobs
 /// bring. Clauses see the accepted edits and what they leave, the keys whose pictures are held or
@@ -60,7 +60,7 @@ impl<P: Decoded> Drop for Session<P> {
 
 impl<P: Decoded> Model for Session<P> {
     ghost use Rattle.std.specs.Coded.{codes};
-    ghost use Rattle.dep_keys.specs.Trees.{tree_code};
+    ghost use Rattle.decode_jobs.specs.Trees.{tree_code};
     ghost use Rattle.picture_keys.specs.contracts.works.Works as works;
     ghost use Rattle.stream_session.specs.Machines.{Machine};
 

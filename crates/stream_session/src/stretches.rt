@@ -7,10 +7,10 @@ ghost use Rattle.stream_edits.specs.Streams.{ids_of};
 ghost use Rattle.stream_fold.specs.Prepared.{IsAnew, change_in};
 ghost use Rattle.stream_session.specs.Stretches.{IsStretchOf, ids_anew};
 
-use base_types::Shared;
+use h264_types::base::Shared;
+use h264_types::pictures::AuId;
 use picture_keys::HashedUnit;
 use picture_store::Stretch;
-use pictures::AuId;
 use std::alloc::{AllocError, Global};
 use stream_edits::Change;
 use stream_fold::{OrderedFold, PreparedChange, shares_of};

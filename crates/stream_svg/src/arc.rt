@@ -7,7 +7,7 @@ ghost use Rattle.stream_svg.specs.Boxes.{IsSmall, stream_box};
 use crate::geometry::{Point, Rect};
 use crate::grid::{Grid, MOST_BAND};
 use crate::unit::{DrawnUnit, RefList, Reference};
-use pictures::AuId;
+use h264_types::pictures::AuId;
 
 /// Where the stub of an arc ends whose frame isn't drawn.
 const STUB: usize = 46;

@@ -1,6 +1,6 @@
 //! Units as a drawing shows them.
 
-use pictures::AuId;
+use h264_types::pictures::AuId;
 use unit_outcomes::ValidityFault;
 
 /// A unit of a stream as it is drawn.

@@ -10,8 +10,8 @@ use h264_controls::{
     V4l2CtrlH264DecodeParams, V4l2CtrlH264PredWeights, V4l2CtrlH264SliceParams, V4l2H264DpbEntry,
     V4l2H264FieldReference,
 };
-use pictures::List;
-use slice_header_types::SliceType;
+use h264_types::pictures::List;
+use h264_types::slice_headers::SliceType;
 use std::alloc::{AllocError, Global};
 
 /// The list of these entries, of at most 32.

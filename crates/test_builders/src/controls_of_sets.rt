@@ -6,7 +6,7 @@ use crate::requests::shared;
 use h264_controls::{
     PpsFlags, SetControls, SpsFlags, V4l2CtrlH264Pps, V4l2CtrlH264ScalingMatrix, V4l2CtrlH264Sps,
 };
-use param_set_types::{ChromaFormat, PicOrderCntType, WeightedBipred};
+use h264_types::param_sets::{ChromaFormat, PicOrderCntType, WeightedBipred};
 use std::alloc::{AllocError, Global};
 
 /// The sequence parameter set 67 42 00 0A DA 79, but for the width; of two macroblocks it is 67 42

@@ -2,8 +2,10 @@
 
 ghost use Rattle.std.specs.Prelude.{◌≡◌};
 
-use base_types::AtMost;
-use slice_header_types::{DecRefPicMarking, RefPicListModifications, SliceHeader, SliceType};
+use h264_types::base::AtMost;
+use h264_types::slice_headers::{
+    DecRefPicMarking, RefPicListModifications, SliceHeader, SliceType,
+};
 use std::alloc::Global;
 
 /// The header of a P slice of this frame_num, of a reference picture with the sliding window: each

@@ -2,10 +2,10 @@
 
 ghost use Rattle.std.specs.Prelude.{◌≡◌, ◌*◌, IfOk};
 
-use base_types::Shared;
 use bytes::Bytes;
 use h264_controls::{Controls, References, Request, Work};
-use pictures::AuId;
+use h264_types::base::Shared;
+use h264_types::pictures::AuId;
 use std::alloc::{AllocError, Global};
 
 /// The value with one owner.

@@ -2,8 +2,8 @@
 
 ghost use Rattle.std.specs.Prelude.{◌≡◌, [], false};
 
-use base_types::AtMost;
-use param_set_types::{
+use h264_types::base::AtMost;
+use h264_types::param_sets::{
     ChromaFormat, Offsets, PicOrderCntType, Pps, ScalingLists, Sps, WeightedBipred,
 };
 use std::alloc::Global;

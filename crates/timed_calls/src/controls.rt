@@ -1,7 +1,7 @@
 //! The kernel's structs of a request.
 
+use frame_requests::layouts::{DecodeParams, Pps, ScalingMatrix, SliceParams, Sps};
 use h264_controls::Request;
-use linux_layouts::{DecodeParams, Pps, ScalingMatrix, SliceParams, Sps};
 
 /// The controls of a request as the kernel's structs, but for the weights.
 #[derive(Clone, Copy)]

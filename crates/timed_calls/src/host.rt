@@ -7,9 +7,9 @@ use crate::asked::Call;
 use crate::controls::fills_first;
 use anyhow::{Result, bail};
 use bytes::Bytes;
-use edit_engine::{Config, Edit, Landing, Place, Session, Shown};
-use pictures::AuId;
+use h264_types::pictures::AuId;
 use stand_in_device::{Device, Undone};
+use stand_in_session::{Config, Edit, Landing, Place, Session, Shown};
 use std::alloc::Global;
 use unit_outcomes::Outcome;
 

@@ -1,3 +1,10 @@
 pub mod Names
 pub mod Numbers
 pub mod RequestItems
+pub mod References
+pub mod SeenUnits
+pub mod Entries
+pub mod Breaks
+pub mod InDoubt
+pub mod Sets
+pub mod Walks

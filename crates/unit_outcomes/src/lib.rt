@@ -6,6 +6,7 @@
 //! order, keys and the lines that are printed are made of them.
 #![tactic(auto)]
 
+pub mod doubts;
 mod outcome;
 mod requests;
 mod validity_fault;

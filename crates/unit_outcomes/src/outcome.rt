@@ -4,7 +4,7 @@ ghost use Rattle.std.specs.Prelude.{◌≡◌, IfOk};
 
 use crate::ValidityFault;
 use crate::requests::Requests;
-use pictures::Counts;
+use h264_types::pictures::Counts;
 use std::alloc::{AllocError, Global};
 
 /// The plan of a valid unit.

@@ -7,8 +7,8 @@ ghost use Rattle.worker_jobs.specs.Wanted.{urgent};
 
 use crate::wanted::Wanted;
 use decode_jobs::{Decoded, Job};
+use h264_types::pictures::AuId;
 use picture_store::TakeRefused;
-use pictures::AuId;
 use stream_session::{Session, Shown};
 
 impl Wanted {

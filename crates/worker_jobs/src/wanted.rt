@@ -4,7 +4,7 @@ ghost use Rattle.std.specs.Prelude.{◌≡◌, ◌<◌, ◌≤◌, ◌↔◌, �
 ghost use Rattle.std.specs.Bool.{Decides};
 
 use arrayvec::ArrayVec;
-use pictures::AuId;
+use h264_types::pictures::AuId;
 use std::marker::Model;
 use thiserror::Error;
 

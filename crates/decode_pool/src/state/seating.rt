@@ -3,7 +3,7 @@
 ghost use Rattle.std.specs.Prelude.{◌≡◌, length, IfOk};
 ghost use Rattle.stream_edits.specs.Groups.{IsSized};
 ghost use Rattle.stream_session.specs.Grouping.{AnswersGroup};
-ghost use Rattle.edit_engine.specs.Showing.{Shows};
+ghost use Rattle.stand_in_session.specs.Showing.{Shows};
 ghost use Rattle.decode_pool.specs.Appends.{AppendsOn, AppendsOne};
 ghost use Rattle.decode_pool.specs.Seats.{AnswersDropIn, AnswersEditIn, IsReached, NotesDrop, NotesEdit, NotesGroup, NotesShow};
 
@@ -11,11 +11,11 @@ use super::DeskState;
 use crate::appending::Appended;
 use crate::group_note::GroupNote;
 use crate::seat::Seat;
-use edit_engine::{
+use h264_types::pictures::AuId;
+use picture_keys::HashedUnit;
+use stand_in_session::{
     Dropping, EditRefused, GroupReceipt, GroupRefused, Picture, ReadEdit, ReadGroup, Receipt, Shown,
 };
-use picture_keys::HashedUnit;
-use pictures::AuId;
 use std::alloc::AllocError;
 
 impl DeskState<Picture> {

@@ -5,7 +5,7 @@ ghost use Rattle.decode_pool.specs.Waits.{AreSettledFrom, IsPendingAt, IsReached
 
 use super::DeskState;
 use decode_jobs::Decoded;
-use pictures::AuId;
+use h264_types::pictures::AuId;
 use stream_session::Shown;
 
 /// What a seat that waits for a desk's pictures is answered.

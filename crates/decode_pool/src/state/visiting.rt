@@ -9,7 +9,7 @@ ghost use Rattle.decode_pool.specs.Waits.{IsReached};
 
 use super::DeskState;
 use decode_jobs::Decoded;
-use pictures::AuId;
+use h264_types::pictures::AuId;
 use stream_edits::{EditRefused, GroupReceipt, GroupRefused, ReadEdit, ReadGroup, Receipt};
 use stream_session::{Dropped, Session, Shown};
 

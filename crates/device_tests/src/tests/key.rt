@@ -5,7 +5,7 @@ mod sweeps;
 ghost use Rattle.std.specs.Prelude.{◌≡◌, ℕ, replicate};
 ghost use Rattle.std.specs.Int.{w32, to_le_bytes};
 
-use dep_keys::{Fingerprint, KeyId, Keys, Node, Work};
+use decode_jobs::dep_keys::{Fingerprint, KeyId, Keys, Node, Work};
 use sha2::{Digest, Sha256};
 use std::alloc::{AllocError, AllocGlobal};
 use std::process::Abort;

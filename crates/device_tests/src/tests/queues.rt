@@ -13,7 +13,9 @@ use calls::Call::{
 };
 pub(super) use calls::Recorder;
 use calls::{Answer, Call, Slice, are_answered};
-use m2m_queues::{BufferState, MOST_BUFFERS, QueueFault, Queues, RequestState, RunOne, Target};
+use stand_in_device::m2m_queues::{
+    BufferState, MOST_BUFFERS, QueueFault, Queues, RequestState, RunOne, Target,
+};
 use std::alloc::{AllocError, Global};
 use std::test::Fail;
 

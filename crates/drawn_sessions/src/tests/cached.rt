@@ -3,8 +3,8 @@
 //! again.
 
 use super::trees::{Key, Tree, key_with};
-use edit_engine::{Session, Shown};
-use pictures::AuId;
+use h264_types::pictures::AuId;
+use stand_in_session::{Session, Shown};
 use std::alloc::{AllocError, Global};
 use std::mem;
 

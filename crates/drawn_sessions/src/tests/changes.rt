@@ -2,8 +2,8 @@
 
 use super::trees::{Key, Tree, key_at};
 use access_unit::Unit;
-use edit_engine::Changed;
-use pictures::AuId;
+use h264_types::pictures::AuId;
+use stand_in_session::Changed;
 use std::alloc::{AllocError, Global};
 use unit_outcomes::Outcome;
 

@@ -6,10 +6,10 @@ use super::pool::text_at;
 use super::told::{Answer, Change};
 use super::trees::key_with;
 use access_unit::{Unit, read_unit};
-use edit_engine::Session;
+use h264_types::pictures::AuId;
 use output_order::positions;
-use pictures::AuId;
 use request_core::scratch;
+use stand_in_session::Session;
 use std::alloc::{AllocError, Global};
 use std::mem;
 

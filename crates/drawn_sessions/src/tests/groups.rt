@@ -4,8 +4,8 @@ use super::edits::read;
 use super::plain::Plain;
 use super::told::{Answer, Change, EditGroup, MOST_TOGETHER};
 use access_unit::Unit;
-use edit_engine::Session;
-use pictures::AuId;
+use h264_types::pictures::AuId;
+use stand_in_session::Session;
 use std::alloc::{AllocError, Global};
 
 /// What edits change, with the ids of the stream's units in the units' stead.

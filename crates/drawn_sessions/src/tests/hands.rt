@@ -3,12 +3,12 @@
 
 use super::jobs::Given;
 use super::told::{Answer, MOST_TOGETHER, Told};
-use edit_engine::{
+use h264_types::pictures::AuId;
+use stand_in_device::{Device, Input, Undone};
+use stand_in_session::{
     EditRefused, Finished, GroupReceipt, GroupRefused, Job, Landing, Receipt, Returning, Session,
     TakeRefused, drop_picture,
 };
-use pictures::AuId;
-use stand_in_device::{Device, Input, Undone};
 use std::alloc::{AllocError, Global};
 
 /// A session, and the inputs of all jobs that it gave.

@@ -3,11 +3,11 @@
 use super::plain::Plain;
 use super::told::Answer;
 use super::trees::{Key, Tree, key_at, key_with, named};
-use edit_engine::{Landing, Picture, Returning};
 use h264_controls::{Request, digest_form};
-use pictures::AuId;
+use h264_types::pictures::AuId;
 use sha2::{Digest, Sha256};
 use stand_in_device::{Input, Reference};
+use stand_in_session::{Landing, Picture, Returning};
 use std::alloc::{AllocError, Global};
 use unit_outcomes::Outcome;
 

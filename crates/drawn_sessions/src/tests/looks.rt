@@ -2,9 +2,9 @@
 
 use super::plain::Plain;
 use super::trees::{Key, Tree, key_at};
-use dep_keys::KeyId;
-use edit_engine::{Last, NoSuchUnit, Session};
-use pictures::AuId;
+use decode_jobs::dep_keys::KeyId;
+use h264_types::pictures::AuId;
+use stand_in_session::{Last, NoSuchUnit, Session};
 use std::alloc::{AllocError, Global};
 use unit_outcomes::Outcome;
 

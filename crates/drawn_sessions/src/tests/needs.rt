@@ -3,8 +3,8 @@
 use super::plain::Plain;
 use super::told::Answer;
 use super::trees::{Key, key_at, named};
-use edit_engine::Dropping;
-use pictures::AuId;
+use h264_types::pictures::AuId;
+use stand_in_session::Dropping;
 use std::alloc::{AllocError, Global};
 
 impl Plain {

@@ -6,8 +6,8 @@ use super::jobs::Given;
 use super::told::{Answer, Change, Told};
 use super::trees::{Key, Seen, Tree, key_at};
 use access_unit::Unit;
-use edit_engine::{Changed, Session, Shown};
-use pictures::AuId;
+use h264_types::pictures::AuId;
+use stand_in_session::{Changed, Session, Shown};
 use std::alloc::{AllocError, Global};
 use unit_outcomes::Outcome;
 

@@ -1,8 +1,8 @@
 //! What a session is told, and what it answers.
 
 use super::pool::text_at;
-use edit_engine::{Changed, Dropping, Edit, Landing, Place, Returning};
-use pictures::AuId;
+use h264_types::pictures::AuId;
+use stand_in_session::{Changed, Dropping, Edit, Landing, Place, Returning};
 use std::alloc::{AllocError, Global};
 
 /// An edit, whose texts are places of the pool.

@@ -1,9 +1,9 @@
 //! Keys as whole trees, each written out once.
 
 use access_unit::Unit;
-use base_types::Shared;
 use h264_controls::{Request, Work};
-use pictures::AuId;
+use h264_types::base::Shared;
+use h264_types::pictures::AuId;
 use std::alloc::{AllocError, Global};
 use unit_outcomes::Outcome;
 

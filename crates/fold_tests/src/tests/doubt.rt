@@ -4,13 +4,13 @@
 use super::fold::unit;
 use super::row_holds;
 use access_unit::Unit;
-use doubts::{Doubt, doubts};
-use pictures::AuId;
+use h264_types::pictures::AuId;
 use request_core::scratch;
 use std::alloc::{AllocError, AllocGlobal, Global};
 use std::process::Abort;
 use std::test::Fail;
 use unit_outcomes::Outcome;
+use unit_outcomes::doubts::{Doubt, doubts};
 
 /// Sets and an IDR picture.
 const A: &[u8] = &[

@@ -3,9 +3,9 @@
 ghost use Rattle.std.specs.Prelude.{replicate};
 
 use access_unit::Unit;
-use dep_keys::{Fingerprint, KeyId, Keys, Node, Sha256Fingerprint};
+use decode_jobs::dep_keys::{Fingerprint, KeyId, Keys, Node, Sha256Fingerprint};
+use h264_types::pictures::AuId;
 use picture_keys::{KeyNumbers, SlicesDigest, Works, node_of};
-use pictures::AuId;
 use request_core::scratch;
 use std::alloc::{AllocError, AllocGlobal};
 use std::process::Abort;

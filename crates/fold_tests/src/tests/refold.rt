@@ -5,10 +5,10 @@ mod with_outcomes;
 ghost use Rattle.std.specs.Prelude.{◌<◌, ◌≤◌, length};
 
 use access_unit::{Refused, read_unit};
-use base_types::Shared;
+use h264_types::base::Shared;
+use h264_types::pictures::AuId;
 use output_order::Comparisons;
 use picture_keys::HashedUnit;
-use pictures::AuId;
 use std::alloc::{AllocError, AllocGlobal, Global};
 use std::process::Abort;
 use std::test::Fail;

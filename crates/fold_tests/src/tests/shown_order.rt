@@ -1,8 +1,8 @@
 //! Output order, by positions worked out by hand (C.4.5.3).
 
 use super::row_holds;
+use h264_types::pictures::Counts;
 use output_order::positions;
-use pictures::Counts;
 use std::alloc::{AllocError, Global};
 use std::test::Fail;
 use unit_outcomes::{Outcome, Plan, Requests, ValidityFault};

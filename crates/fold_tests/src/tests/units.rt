@@ -7,7 +7,7 @@ mod streams;
 use super::row_holds;
 use access_unit::{ParameterSet, SharedNal, Unit, one_answer, read_shared, read_stream, read_unit};
 use bytes::Bytes;
-use param_set_types::{PicOrderCntType, Pps, Sps};
+use h264_types::param_sets::{PicOrderCntType, Pps, Sps};
 use std::alloc::{AllocError, Global};
 use std::test::Fail;
 

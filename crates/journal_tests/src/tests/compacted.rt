@@ -3,7 +3,7 @@
 use super::row_holds;
 use bytes::Bytes;
 use edit_journal::{FileJournal, JournalFault, Kind, Step as Kept, Wary, open};
-use pictures::AuId;
+use h264_types::pictures::AuId;
 use session_journal::{Journals, Records, SessionFile, Snapshot, Step, Unkept};
 use std::alloc::{AllocError, Global};
 use std::fs;

@@ -2,7 +2,7 @@
 
 use super::row_holds;
 use bytes::Bytes;
-use pictures::AuId;
+use h264_types::pictures::AuId;
 use session_journal::{Journals, Records, SessionFile, Step, Unkept};
 use std::alloc::Global;
 use std::fs;

@@ -3,10 +3,10 @@
 ghost use Rattle.std.specs.Prelude.{◌≡◌};
 
 use super::PictureStore;
-use base_types::Shared;
 use decode_jobs::Decoded;
+use h264_types::base::Shared;
+use h264_types::pictures::AuId;
 use picture_keys::HashedOutcome;
-use pictures::AuId;
 
 impl<P: Decoded> PictureStore<P> {
     /// The ids of the units, in the order of the stream.

@@ -6,7 +6,7 @@ ghost use Rattle.picture_store.specs.Released.{AnswersDrop, AnswersReleased, Ans
 use super::PictureStore;
 use crate::unreferred::first_free;
 use decode_jobs::Decoded;
-use key_slots::is_held;
+use held_pictures::key_slots::is_held;
 
 impl<P: Decoded> PictureStore<P> {
     /// Gives back the picture of the unit at a place, where it is held. It isn't cached. A job that

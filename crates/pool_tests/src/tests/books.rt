@@ -2,9 +2,9 @@
 
 use super::{A, P1, P1X, PICTURE_OF_A, after, empty_session, first, replace, row_holds};
 use Note::{Drops, Edits, Shows};
-use edit_engine::{Dropping, Edit, Picture, Session, Shown};
-use pictures::AuId;
+use h264_types::pictures::AuId;
 use seat_books::{AuditFault, SeatBook, SeatReceipt, audit};
+use stand_in_session::{Dropping, Edit, Picture, Session, Shown};
 use std::alloc::{AllocError, Global};
 use std::process::Abort;
 use std::test::Fail;

@@ -3,7 +3,7 @@
 use super::{A, edits, first, opened, row_holds};
 use Handed::{Foreign, Own};
 use decode_pool::{Desk, FinishFault, Seat, Unfinished, finish};
-use edit_engine::Session;
+use stand_in_session::Session;
 use std::alloc::AllocGlobal;
 use std::process::Abort;
 use std::sync::Wait;

@@ -5,8 +5,8 @@ use super::{
     opened_for_one, replace, row_holds,
 };
 use decode_pool::{Desk, Gate, Seat, Settled, Worked, worker};
-use edit_engine::{Finished, Job, Session};
 use stand_in_device::{Device, Undone};
+use stand_in_session::{Finished, Job, Session};
 use std::alloc::{AllocError, AllocGlobal, Global};
 use std::process::Abort;
 use std::sync::Wait;

@@ -6,11 +6,11 @@ use super::{
     replace, row_holds,
 };
 use decode_pool::{Desk, Seat, Settled, Worked, finish, worker};
-use edit_engine::{Edit, EditRefused, GroupReceipt, GroupRefused, Session, Shown};
-use pictures::AuId;
+use h264_types::pictures::AuId;
 use seat_books::{AuditFault, NotedGroup, SeatBook, SeatReceipt};
 use session_builders::are_ids;
 use stand_in_device::Device;
+use stand_in_session::{Edit, EditRefused, GroupReceipt, GroupRefused, Session, Shown};
 use std::alloc::{AllocError, AllocGlobal, Global};
 use std::process::Abort;
 use std::sync::Wait;

@@ -12,9 +12,9 @@ mod taken;
 mod undoing;
 
 use bytes::Bytes;
+use console_io::file_saving::{Saver, Unsaved};
 use console_io::{InputFault, Source};
 use failure_reasons::Explain;
-use file_saving::{Saver, Unsaved};
 use recorded::Few;
 use serve_run::{ServeEnd, serve_alone};
 use session_journal::Step;

@@ -7,10 +7,10 @@ use super::{
     opened_for_one,
 };
 use decode_pool::{Desk, Gate, Seat, Settled, Worked, worker};
-use edit_engine::{Finished, Job, Session, Shown};
-use pictures::AuId;
+use h264_types::pictures::AuId;
 use seat_books::{AuditFault, SeatBook, SeatReceipt};
 use stand_in_device::{Device, Undone};
+use stand_in_session::{Finished, Job, Session, Shown};
 use std::alloc::{AllocError, Global};
 use std::process::Abort;
 use std::sync::Wait;

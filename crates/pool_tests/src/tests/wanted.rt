@@ -4,9 +4,9 @@
 use super::gates::HandsBack;
 use super::{A, after, finished, first, is_pending, is_ready, opened, opened_for_one, row_holds};
 use decode_pool::{Desk, Gate, Seat, Settled, TooManyWanted, worker};
-use edit_engine::{Edit, Finished, Job};
-use pictures::AuId;
+use h264_types::pictures::AuId;
 use stand_in_device::{Device, Undone};
+use stand_in_session::{Edit, Finished, Job};
 use std::alloc::{AllocError, AllocGlobal, Global};
 use std::process::Abort;
 use std::sync::{Mutex, Wait};

@@ -4,7 +4,7 @@
 use super::{A, P1, joined, row_holds};
 use access_unit::read_stream;
 use h264_controls::{Request, digest_form};
-use pictures::AuId;
+use h264_types::pictures::AuId;
 use request_core::scratch;
 use std::alloc::{AllocError, Global};
 use std::process::Abort;

@@ -8,7 +8,7 @@ use console_io::Status;
 use script_run::{Options, script_on};
 use std::process::Abort;
 use std::test::Fail;
-use unit_json::Json;
+use unit_printing::json::Json;
 
 /// P pictures of frame_num 3 to 15.
 const P3_TO_15: &[u8] = &[

@@ -11,7 +11,7 @@ use script_run::{Options, script_on};
 use std::process::Abort;
 use std::sync::Wait;
 use std::thread::Threads;
-use unit_json::Json;
+use unit_printing::json::Json;
 
 /// A stream of A and P1, and its lines.
 const STREAM: &[u8] = &[

@@ -9,7 +9,7 @@ use std::alloc::AllocError;
 use std::process::Abort;
 use std::test::Fail;
 use std::thread::Threads;
-use unit_json::Json;
+use unit_printing::json::Json;
 
 /// Lines that are no command.
 const WRONG: [&str; 69] = [

@@ -5,14 +5,14 @@ use super::{A, LINES_OF_A, P1, joined, repeated, row_holds, texts};
 use Status::{Failure, Success};
 use bytes::Bytes;
 use console_io::{Ended, InputFault, Source, Status};
-use edit_engine::{Config, Edit, Place, Session};
 use script_run::{Options, script_on};
+use stand_in_session::{Config, Edit, Place, Session};
 use std::alloc::{AllocError, Global};
 use std::process::Abort;
 use std::test::Fail;
 use std::thread::Threads;
-use unit_json::Json;
 use unit_outcomes::Outcome;
+use unit_printing::json::Json;
 
 /// The insertion of A as the first unit.
 pub(super) const INSERT_A: &str =

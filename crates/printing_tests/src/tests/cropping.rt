@@ -1,8 +1,8 @@
 //! Sizes after cropping, of sets that were coded by hand from 7.3.2.1.1 and 9.1.
 
 use super::row_holds;
+use param_sets::cropping::{Size, cropped_size};
 use param_sets::{SetFault, read_sps};
-use sps_cropping::{Size, cropped_size};
 use std::alloc::Global;
 use std::test::Fail;
 

@@ -3,7 +3,7 @@
 //! three quarters of them; faults make the band below 128.
 
 use super::row_holds;
-use pictures::AuId;
+use h264_types::pictures::AuId;
 use std::alloc::{AllocError, Global};
 use std::process::Abort;
 use std::test::Fail;

@@ -1,10 +1,10 @@
 use access_unit::{Refusal, Refused};
-use doubts::Doubt;
-use pictures::AuId;
+use h264_types::pictures::AuId;
 use std::alloc::{AllocError, Global};
 use std::test::Fail;
-use unit_json::{DecodeMode, Encoder, Json, JsonLine};
+use unit_outcomes::doubts::Doubt;
 use unit_outcomes::{Outcome, ValidityFault};
+use unit_printing::json::{DecodeMode, Encoder, Json, JsonLine};
 
 /// The text of the line of a unit.
 fn unit_text(alloc: Global, id: u32, outcome: &Outcome) -> Result<String, AllocError> {

@@ -1,9 +1,9 @@
 //! Kinds of files, by headers that were made by hand from the formats' documents.
 
 use super::{joined, row_holds};
-use file_kinds::{FIRST_BYTES, FileKind, kind_of};
 use std::alloc::{AllocError, Global};
 use std::test::Fail;
+use stream_reasons::file_kinds::{FIRST_BYTES, FileKind, kind_of};
 
 /// The packet of a transport stream that is filled up (ITU-T H.222.0, 2.4.1: PID 0x1FFF), without
 /// its first four bytes.

@@ -8,7 +8,7 @@ use std::alloc::{AllocError, Global};
 use std::process::Abort;
 use std::test::Fail;
 use std::thread::Threads;
-use unit_json::{DecodeMode, Json, plan_json_for};
+use unit_printing::json::{DecodeMode, Json, plan_json_for};
 
 /// A part of a line: a text that stands so often, with commas between.
 type Part = (&'static str, usize);

@@ -9,7 +9,7 @@ use std::alloc::{AllocError, Global};
 use std::process::Abort;
 use std::test::Fail;
 use std::thread::Threads;
-use unit_json::{DecodeMode, Json, plan_json_for};
+use unit_printing::json::{DecodeMode, Json, plan_json_for};
 
 /// A sequence parameter set of one macroblock with frame_num of four bits, a picture parameter set
 /// and an IDR picture.

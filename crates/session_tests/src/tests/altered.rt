@@ -2,9 +2,9 @@
 
 use super::{A, P1, P2, empty_session, row_holds};
 use Told::{After, Delete, First, Replace};
-use edit_engine::Session;
-use pictures::AuId;
+use h264_types::pictures::AuId;
 use session_builders::{Told, edits_of};
+use stand_in_session::Session;
 use std::test::Fail;
 
 /// The sets and the picture of `A`, but for the last byte of its slice.

@@ -2,8 +2,8 @@
 
 use super::{A, I, P1, P2, empty_session, row_holds};
 use Told::{After, Delete, First, Replace};
-use edit_engine::Changed;
 use session_builders::{Told, edits_of};
+use stand_in_session::Changed;
 use std::test::Fail;
 
 /// Groups of edits on one session, one after the other, and of each the first place of the units

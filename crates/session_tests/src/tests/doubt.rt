@@ -2,8 +2,8 @@
 
 use super::{A, P1, P2, empty_session, row_holds};
 use Told::{After, Delete, First};
-use edit_engine::Doubt;
 use session_builders::{Told, edits_of};
+use stand_in_session::Doubt;
 use std::test::Fail;
 
 /// A group of edits, and of each unit after it the number of the one that it follows, 0 where it

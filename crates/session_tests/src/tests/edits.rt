@@ -4,10 +4,10 @@ use super::{A, I, P1, P2, Shown, Step, empty_session, holds, row_holds};
 use Shown::{At, Empty, Fault, Gone};
 use Step::Unit;
 use Told::{After, Delete, First, Replace};
-use edit_engine::{Config, ConfigFault, Last, Session};
 use h264_controls::Request;
-use pictures::AuId;
+use h264_types::pictures::AuId;
 use session_builders::Told;
+use stand_in_session::{Config, ConfigFault, Last, Session};
 use unit_outcomes::{Outcome, Plan, ValidityFault};
 
 /// A sequence parameter set alone.

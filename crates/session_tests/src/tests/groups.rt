@@ -2,11 +2,11 @@
 
 use super::{A, I, P1, P2, empty_session, row_holds, runner_of};
 use Told::{After, Delete, First, Replace};
-use edit_engine::{
+use h264_types::pictures::AuId;
+use session_builders::{Told, are_ids, edit_of, edits_of};
+use stand_in_session::{
     Command, Edit, GroupReceipt, GroupRefused, Reply, Runner, Session, Shown, TakenJob,
 };
-use pictures::AuId;
-use session_builders::{Told, are_ids, edit_of, edits_of};
 use std::alloc::{AllocError, Global};
 use std::test::Fail;
 

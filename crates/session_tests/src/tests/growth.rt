@@ -14,8 +14,8 @@ mod sessions;
 mod starved;
 mod streams;
 
-use edit_engine::{Config, ConfigFault, Runner, Session};
 use session_builders::Told;
+use stand_in_session::{Config, ConfigFault, Runner, Session};
 use std::alloc::Global;
 use std::process::Abort;
 

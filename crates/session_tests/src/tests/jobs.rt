@@ -1,11 +1,11 @@
 //! Jobs, results and pictures, through a runner.
 
 use super::{A, I, P1, P2, row_holds, runner_of};
-use edit_engine::{
+use h264_types::pictures::AuId;
+use session_builders::{Told, edit_of};
+use stand_in_session::{
     Command, Config, Dropping, Landing, NotOut, Picture, Reply, Returning, Runner, Shown, run,
 };
-use pictures::AuId;
-use session_builders::{Told, edit_of};
 use std::alloc::{AllocError, Global};
 use std::test::Fail;
 

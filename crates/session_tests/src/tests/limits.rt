@@ -2,7 +2,7 @@
 
 use super::{A, Answer, empty_session, is_answer, row_holds};
 use bytes::Bytes;
-use edit_engine::{Edit, Place, Session};
+use stand_in_session::{Edit, Place, Session};
 use std::alloc::{AllocError, Global};
 use std::test::Fail;
 

@@ -3,9 +3,9 @@
 use super::jobs::{Act, holds};
 use super::{A, runner_of};
 use bytes::Bytes;
-use edit_engine::{Command, Edit, Landing, Reply, Runner};
-use pictures::AuId;
+use h264_types::pictures::AuId;
 use session_builders::Told;
+use stand_in_session::{Command, Edit, Landing, Reply, Runner};
 use std::alloc::{AllocError, Global};
 use std::test::Fail;
 

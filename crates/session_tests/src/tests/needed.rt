@@ -2,8 +2,8 @@
 
 use super::jobs::{A1, Act, I1, all_hold, runs};
 use super::{A, I, P1, P2, row_holds, runner_of};
-use edit_engine::{Dropping, Landing};
 use session_builders::Told;
+use stand_in_session::{Dropping, Landing};
 use std::test::Fail;
 
 /// Three pictures, each of which needs those before it: taken for the last one, they come one after

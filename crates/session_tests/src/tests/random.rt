@@ -4,9 +4,9 @@ ghost use Rattle.std.specs.Prelude.{◌<◌, ◌≤◌, length, vec_len, IfSome}
 
 use super::{A, I, P1, P2, empty_session, row_holds};
 use access_unit::{Unit, read_unit};
-use edit_engine::{Last, Receipt, Session};
-use pictures::AuId;
+use h264_types::pictures::AuId;
 use session_builders::{Told, edit_of, tells_each};
+use stand_in_session::{Last, Receipt, Session};
 use std::alloc::{AllocError, Global};
 use std::test::Fail;
 use test_builders::Draws;

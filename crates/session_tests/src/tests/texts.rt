@@ -3,7 +3,7 @@
 
 use super::row_holds;
 use access_unit::Refused;
-use edit_engine::{ConfigFault, EditRefused, NoSuchUnit, NotOut, TakeRefused};
+use stand_in_session::{ConfigFault, EditRefused, NoSuchUnit, NotOut, TakeRefused};
 use std::test::Fail;
 
 /// Each refusal of an edit with its number, its name and its text.

@@ -6,12 +6,12 @@ ghost use Rattle.picture_store.specs.Stores.{AreNumbered, AreOneToOne, IsNumberI
 ghost use Rattle.stream_edits.specs.Edits.{Replays, no_units};
 ghost use Rattle.stream_edits.specs.Journals.{edits_of};
 ghost use Rattle.stream_edits.specs.Streams.{end_of, ids_of, last_of, place_of, start_of};
-ghost use Rattle.stream_snapshot.specs.Snapshots.{IsAnyOf};
+ghost use Rattle.stream_edits.specs.Snapshots.{IsAnyOf};
 ghost use Rattle.stream_session.specs.Streams.{outcome_in, position_in};
 ghost use Rattle.stream_session.specs.Machines.{store_of};
 ghost use Rattle.stream_session.specs.Showing.{HasNumber, Shows};
 ghost use Rattle.stream_session.specs.Taken.{input_of};
-ghost use Rattle.doubts.specs.InDoubt.{AreDoubts};
+ghost use Rattle.unit_outcomes.specs.InDoubt.{AreDoubts};
 ghost use Rattle.stream_session.specs.Doubting.{seen_in};
 ghost use Rattle.decode_jobs.specs.Inputs.{is_whole};
 
@@ -19,16 +19,16 @@ use super::Session;
 use crate::doubting::doubts_of;
 use crate::refusals::NoSuchUnit;
 use crate::showing::Shown;
-use base_types::Shared;
+use decode_jobs::dep_keys::KeyId;
 use decode_jobs::{Decoded, Input};
-use dep_keys::KeyId;
-use doubts::Doubt;
+use h264_types::base::Shared;
+use h264_types::pictures::AuId;
 use output_order::Comparisons;
 use picture_keys::HashedOutcome;
-use pictures::AuId;
 use std::alloc::AllocError;
 use stream_edits::{JournalEntry, Last, Place};
 use unit_outcomes::Outcome;
+use unit_outcomes::doubts::Doubt;
 
 impl<P: Decoded> Session<P> {
     /// The place after all units, at which a unit is appended.

@@ -5,7 +5,7 @@ ghost use Rattle.stream_session.specs.Altered.{AnswersAltered, NoneAltered, with
 
 use super::Session;
 use decode_jobs::Decoded;
-use pictures::AuId;
+use h264_types::pictures::AuId;
 use std::alloc::AllocError;
 
 impl<P: Decoded> Session<P> {

@@ -7,7 +7,7 @@ ghost use Rattle.stream_session.specs.Needing.{AnswersDrop, AnswersReleased, Ans
 use super::Session;
 use crate::showing::Dropped;
 use decode_jobs::Decoded;
-use pictures::AuId;
+use h264_types::pictures::AuId;
 
 impl<P: Decoded> Session<P> {
     /// Gives back the picture of the unit that has the id: it is held no more, also for each unit

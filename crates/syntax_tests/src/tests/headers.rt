@@ -7,12 +7,12 @@ mod writer;
 use super::row_holds;
 use SliceType::{B, I, P};
 use annexb::{Nal, SplitFault, split};
-use param_set_types::{PicOrderCntType, Pps, Sps};
-use slice_header::{HeaderFault, HeaderFront, peek, read, slice_type};
-use slice_header_types::{
+use h264_types::param_sets::{PicOrderCntType, Pps, Sps};
+use h264_types::slice_headers::{
     DecRefPicMarking, MemoryManagementControlOperation, PredWeight, RefPicListModification,
     SliceHeader, SliceType,
 };
+use slice_header::{HeaderFault, HeaderFront, peek, read, slice_type};
 use std::alloc::Global;
 use std::process::Abort;
 use std::test::Fail;

@@ -6,7 +6,9 @@ mod sps;
 mod writer;
 
 use super::row_holds;
-use param_set_types::{ChromaFormat, PicOrderCntType, Pps, ScalingLists, Sps, WeightedBipred};
+use h264_types::param_sets::{
+    ChromaFormat, PicOrderCntType, Pps, ScalingLists, Sps, WeightedBipred,
+};
 use param_sets::{SetFault, SetField, read_pps, read_sps, resolve_matrix};
 use std::alloc::{AllocError, AllocGlobal, Global};
 use std::process::Abort;

@@ -2,7 +2,7 @@ use Rattle.std.proofs.Common.{ap, codes, pos, ◌≡◌, ◌∙◌}
 use Rattle.clap.specs.Words.{rule_of}
 use Rattle.clap.specs.declared.builder.ValueParser.{ValueParser}
 use Rattle.clap.specs.declared.builder.ValueParser.TheVariants.{Signed}
-use Rattle.picture_cache.specs.Bounded.{most_room}
+use Rattle.held_pictures.specs.Bounded.{most_room}
 use Rattle.cli.specs.CommandLine.{option_rule}
 use Rattle.cli.proofs.parsing.cache_option.Goals as goal
 

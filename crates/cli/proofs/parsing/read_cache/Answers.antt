@@ -1,7 +1,7 @@
 use Rattle.std.proofs.Common.{arith, codes, ◌∙◌}
 use Rattle.std.specs.Str.Parse.{ParsesUnsigned, ExplainsUnsignedError, HasUnsignedDigitsIfOk}
 use Rattle.clap.specs.Words.{found_of}
-use Rattle.picture_cache.specs.Bounded.{most_room}
+use Rattle.held_pictures.specs.Bounded.{most_room}
 use Rattle.cli.proofs.Matches.{number-none, number-out, number-read}
 use Rattle.cli.proofs.parsing.read_cache.Goals as goal
 

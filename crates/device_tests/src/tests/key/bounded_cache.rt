@@ -1,9 +1,9 @@
 //! The bounded cache of pictures.
 
 ghost use Rattle.std.specs.Prelude.{◌≤◌};
-ghost use Rattle.picture_cache.specs.Bounded.{most_room};
+ghost use Rattle.held_pictures.specs.Bounded.{most_room};
 
-use picture_cache::{MOST_ROOM, PictureCache};
+use held_pictures::picture_cache::{MOST_ROOM, PictureCache};
 use std::alloc::{AllocError, Global};
 use std::test::Fail;
 

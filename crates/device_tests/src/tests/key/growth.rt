@@ -2,7 +2,7 @@
 
 use super::sweeps::are_live;
 use super::{Number, ROWS, entries_of, have_classes, intern};
-use dep_keys::{KeyId, Keys, Sha256Fingerprint};
+use decode_jobs::dep_keys::{KeyId, Keys, Sha256Fingerprint};
 use std::alloc::{AllocError, AllocGlobal};
 use std::process::Abort;
 use std::test::Fail;

@@ -1,7 +1,7 @@
 //! What a sweep keeps, and numbers that are given again.
 
 use super::{Number, Zeros, have_classes, intern, intern_rows};
-use dep_keys::{Fingerprint, KeyId, Keys};
+use decode_jobs::dep_keys::{Fingerprint, KeyId, Keys};
 use std::alloc::{AllocError, AllocGlobal};
 use std::process::Abort;
 use std::test::Fail;

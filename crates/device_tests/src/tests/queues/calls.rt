@@ -1,7 +1,7 @@
 //! Calls and their answers, as tests write them.
 
 use bytes::Bytes;
-use m2m_queues::{
+use stand_in_device::m2m_queues::{
     Buffer, BufferState, Dequeued, QueueFault, Queues, RequestId, RequestState, RunOne, SliceWork,
     Target,
 };

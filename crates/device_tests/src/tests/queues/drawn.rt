@@ -3,7 +3,7 @@
 use super::calls::{Answer, Call, Recorder, make_call};
 use super::plain::{BUFFERS, PlainQueues};
 use super::row_holds;
-use m2m_queues::{Queues, RunOne};
+use stand_in_device::m2m_queues::{Queues, RunOne};
 use std::test::Fail;
 use test_builders::Draws;
 

@@ -2,7 +2,9 @@
 //! request and each buffer has its state, and the moment from which it has been in it.
 
 use super::calls::{Answer, Call, Slice};
-use m2m_queues::{BufferState, MOST_REQUESTS, QueueFault, RequestState, RunOne, Target};
+use stand_in_device::m2m_queues::{
+    BufferState, MOST_REQUESTS, QueueFault, RequestState, RunOne, Target,
+};
 
 /// How many buffers each queue has.
 pub(super) const BUFFERS: usize = 3;

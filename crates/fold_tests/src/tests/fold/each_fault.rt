@@ -7,7 +7,7 @@ use super::{fault_of, row_holds, unit};
 use Nal::{Bytes, Pps};
 use Order::Zero;
 use access_unit::Unit;
-use pictures::AuId;
+use h264_types::pictures::AuId;
 use request_core::scratch;
 use std::process::Abort;
 use std::test::Fail;

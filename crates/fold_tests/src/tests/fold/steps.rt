@@ -7,7 +7,7 @@ use super::slice_faults::SLICE_FAULTS;
 use super::writer::{Nal, Order, Slice};
 use Order::Zero;
 use access_unit::Unit;
-use pictures::AuId;
+use h264_types::pictures::AuId;
 use request_core::{State, Steps, step};
 use std::alloc::{AllocError, AllocGlobal, Global};
 use std::process::Abort;

@@ -5,7 +5,7 @@ ghost use Rattle.request_core.specs.Fold.{outcomes_of};
 ghost use Rattle.stream_edits.specs.Changes.{IsInside, stream_after, units_of};
 ghost use Rattle.stream_fold.specs.Prepared.{IsAnew, change_in};
 
-use base_types::{Shared, replace_range};
+use h264_types::base::{Shared, replace_range};
 use picture_keys::HashedOutcome;
 use std::alloc::{AllocError, Global};
 use std::marker::Model;

@@ -1,7 +1,7 @@
 use Rattle.std.proofs.Common.{◌≡◌, true, false}
 use Rattle.std.proofs.lemmas.Result.{err_from_is_err_and}
 use Rattle.param_sets.specs.PpsSyntax.{so_far, has_matrix}
-use Rattle.param_set_types.specs.declared.pps.Pps.{Pps}
+use Rattle.h264_types.specs.declared.param_sets.pps.Pps.{Pps}
 use Rattle.param_sets.proofs.PpsSections.{lists_absent, lists_read, lists_fault}
 use Rattle.param_sets.proofs.pic_parameter_set.pic_scaling_lists.Goals as goal
 

@@ -1,6 +1,6 @@
 use Rattle.std.proofs.Common.{◌≡◌, ◌-◌, List, [], ◌∷◌, ◌++◌, replicate, length, Some}
 use Rattle.expgolomb.specs.TableReading.{rows_at}
-use Rattle.param_set_types.specs.ScaleSteps.{Deltas, next_scale}
+use Rattle.h264_types.specs.ScaleSteps.{Deltas, next_scale}
 use Rattle.param_sets.specs.Scaling.{take_list, delta_row}
 use Rattle.param_sets.proofs.scaling_list.deltas.Given as goal
 

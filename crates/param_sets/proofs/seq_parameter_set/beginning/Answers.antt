@@ -3,7 +3,7 @@ use Rattle.std.proofs.lemmas.Result.{err_from_is_err_and}
 use Rattle.expgolomb.specs.Bits.{Place}
 use Rattle.expgolomb.specs.TableReading.{field_at, rows_at}
 use Rattle.param_sets.specs.SpsSyntax.{take, no_sps, profile_row, beginning_rows, constraint_rows, level_rows}
-use Rattle.param_set_types.specs.declared.sps.Sps.{Sps}
+use Rattle.h264_types.specs.declared.param_sets.sps.Sps.{Sps}
 use Rattle.expgolomb.proofs.Loops.{rows_step, rows_stop, after_ok, after_err}
 use Rattle.param_sets.proofs.seq_parameter_set.beginning.Goals as goal
 

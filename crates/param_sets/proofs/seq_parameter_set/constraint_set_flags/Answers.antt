@@ -7,7 +7,7 @@ use Rattle.expgolomb.specs.Answer.{flag_value}
 use Rattle.expgolomb.specs.TableReading.{field_at, rows_at}
 use Rattle.expgolomb.specs.Rows.{flag_of}
 use Rattle.param_sets.specs.SpsSyntax.{take, flag_row, constraint_rows}
-use Rattle.param_set_types.specs.declared.sps.Sps.{Sps}
+use Rattle.h264_types.specs.declared.param_sets.sps.Sps.{Sps}
 use Rattle.expgolomb.proofs.Loops.{repeat_step, repeat_stop, rows_none}
 use Rattle.param_sets.proofs.seq_parameter_set.constraint_set_flags.Goals as goal
 

@@ -2,7 +2,7 @@ use Rattle.std.proofs.Common.{◌≡◌, ◌-◌, [], replicate, length}
 use Rattle.std.proofs.Common.{take as front}
 use Rattle.expgolomb.specs.TableReading.{rows_at}
 use Rattle.param_sets.specs.SpsSyntax.{take, flag_row}
-use Rattle.param_set_types.specs.declared.sps.Sps.{Sps}
+use Rattle.h264_types.specs.declared.param_sets.sps.Sps.{Sps}
 use Rattle.param_sets.proofs.seq_parameter_set.constraint_set_flags.Given as goal
 
 -- the flags so far, then the rest of the rows, are what all rows give

@@ -8,7 +8,7 @@ use Rattle.expgolomb.specs.Bits.{Place}
 use Rattle.expgolomb.specs.TableReading.{field_at, rows_at}
 use Rattle.param_sets.specs.SpsSyntax.{take, has_offset, with_offsets, IsCycleOf, offset_row, offset_rows}
 use Rattle.param_sets.specs.declared.fault.SetFault.{SetFault}
-use Rattle.param_set_types.specs.declared.sps.Sps.{Sps}
+use Rattle.h264_types.specs.declared.param_sets.sps.Sps.{Sps}
 use Rattle.expgolomb.proofs.Loops.{repeat_step, repeat_stop, repeat_absent}
 use Rattle.param_sets.proofs.Refusals.{refused}
 use Rattle.param_sets.proofs.seq_parameter_set.cycle.Goals as goal

@@ -1,7 +1,7 @@
 use Rattle.std.proofs.Common.{◌≡◌, ◌-◌, [], replicate, length}
 use Rattle.expgolomb.specs.TableReading.{rows_at}
 use Rattle.param_sets.specs.SpsSyntax.{take, with_offsets, IsCycleOf, offset_row}
-use Rattle.param_set_types.specs.declared.sps.Sps.{Sps}
+use Rattle.h264_types.specs.declared.param_sets.sps.Sps.{Sps}
 use Rattle.param_sets.proofs.seq_parameter_set.cycle.Given as goal
 
 -- the offsets so far, then the rest of the rows, are what all rows give

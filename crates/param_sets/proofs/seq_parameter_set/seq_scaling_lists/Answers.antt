@@ -1,8 +1,8 @@
 use Rattle.std.proofs.Common.{◌≡◌, refl, true, false}
 use Rattle.std.proofs.lemmas.Result.{err_from_is_err_and}
-use Rattle.param_set_types.specs.Profiles.{is_high}
+use Rattle.h264_types.specs.Profiles.{is_high}
 use Rattle.param_sets.specs.SpsSyntax.{has_matrix}
-use Rattle.param_set_types.specs.declared.sps.Sps.{Sps}
+use Rattle.h264_types.specs.declared.param_sets.sps.Sps.{Sps}
 use Rattle.param_sets.proofs.HighProfiles.{lists_absent, lists_read, lists_fault}
 use Rattle.param_sets.proofs.seq_parameter_set.seq_scaling_lists.Goals as goal
 

@@ -1,5 +1,5 @@
-use Rattle.key_slots.specs.Places.{place_at}
-use Rattle.key_slots.proofs.Held.{awaited_told}
+use Rattle.held_pictures.specs.Places.{place_at}
+use Rattle.held_pictures.proofs.Held.{awaited_told}
 use Rattle.picture_store.proofs.due.is_awaited.Goals as goal
 
 pub returns : goal.returns

@@ -1,10 +1,10 @@
 use Rattle.std.proofs.Common.{◌≡◌, sym, subst, ◌∙◌}
 use Rattle.std.proofs.lemmas.Option.{same_Some}
-use Rattle.dep_keys.specs.KeyMaps.{tree_of}
+use Rattle.decode_jobs.specs.KeyMaps.{tree_of}
 use Rattle.picture_store.specs.Due.{AreHeld}
 use Rattle.picture_store.specs.Kept.{keys_for}
 use Rattle.picture_store.specs.Stores.{IsReady}
-use Rattle.key_slots.specs.Places.{numbers_held}
+use Rattle.held_pictures.specs.Places.{numbers_held}
 use Rattle.picture_store.proofs.Ready.{is_ready, are_held}
 use Rattle.picture_store.proofs.due.is_ready.Goals as goal
 

@@ -2,8 +2,8 @@ use Rattle.std.proofs.Common.{ap, subst, ◌∷◌, ◌++◌, Option}
 use Rattle.std.specs.Prelude.{IsPermutation}
 use Rattle.std.specs.Option.{is_some, option_to_list}
 use Rattle.std.proofs.lemmas.List.Sorted.{IsPermutation-sym}
-use Rattle.key_slots.specs.Places.{picture_held, pictures_held}
-use Rattle.key_slots.proofs.Slots.{used_some}
+use Rattle.held_pictures.specs.Places.{picture_held, pictures_held}
+use Rattle.held_pictures.proofs.Slots.{used_some}
 use Rattle.picture_store.proofs.filling.fill.Goals as goal
 
 pub returns-clause-filled : goal.returns-clause-filled

@@ -1,6 +1,6 @@
 use Rattle.std.proofs.Common.{◌≡◌, ℕ, List, [], ap, arith}
 use Rattle.std.proofs.lemmas.List.Sorted.{IsNonDecreasingBy-from_sort, sum_by-IsPermutation}
-use Rattle.key_slots.specs.Counting.{once_if, times_in}
+use Rattle.held_pictures.specs.Counting.{once_if, times_in}
 use Rattle.picture_store.proofs.recounting.leaving.Goals as goal
 
 -- no key stands in a list without keys

@@ -1,5 +1,5 @@
 use Rattle.std.proofs.Common.{arith}
-use Rattle.key_slots.specs.Places.{numbers_held}
+use Rattle.held_pictures.specs.Places.{numbers_held}
 use Rattle.std.proofs.lemmas.List.Sorted.{IsPermutation-append_left, IsPermutation-trans}
 use Rattle.picture_store.proofs.Using.{held_before, recounted}
 use Rattle.picture_store.proofs.recounting.recount.Goals as goal

@@ -2,8 +2,8 @@ use Rattle.std.proofs.Common.{◌≡◌, ◌+◌, ◌++◌, ◌∷◌, [], sym, 
 use Rattle.std.proofs.lemmas.List.{take_all}
 use Rattle.std.proofs.lemmas.List.Elements.{Contains-append_left}
 use Rattle.std.proofs.lemmas.List.Sums.{sum_by_push}
-use Rattle.key_slots.specs.Counting.{once_if, once_at, times, times_in}
-use Rattle.key_slots.proofs.Taking.{times_more}
+use Rattle.held_pictures.specs.Counting.{once_if, once_at, times, times_in}
+use Rattle.held_pictures.proofs.Taking.{times_more}
 use Rattle.picture_store.proofs.Loops.{added_more, added_none}
 use Rattle.picture_store.proofs.refitting.add_numbers.Goals as goal
 use Rattle.picture_store.proofs.refitting.add_numbers.Goals.{in-Some+in_ok-push, in_default}

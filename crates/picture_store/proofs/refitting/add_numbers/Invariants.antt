@@ -1,5 +1,5 @@
 use Rattle.std.proofs.Common.{◌≡◌, ◌+◌, ℕ, Contains, Some, take}
-use Rattle.key_slots.specs.Counting.{times, times_in}
+use Rattle.held_pictures.specs.Counting.{times, times_in}
 use Rattle.picture_store.proofs.refitting.add_numbers.Given as goal
 
 abbrev pub invariant-loop-key : goal.invariant-loop-key

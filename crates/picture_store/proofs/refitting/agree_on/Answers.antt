@@ -2,7 +2,7 @@ use Rattle.std.proofs.Common.{refl, ◌≡◌, ◌∙◌, ◌++◌, ◌∷◌, [
 use Rattle.std.proofs.lemmas.Grind.{common_steps}
 use Rattle.std.proofs.lemmas.List.{take_all, take_more}
 use Rattle.std.proofs.lemmas.List.Elements.{All-push}
-use Rattle.pictures.specs.declared.frames.Frame.{Frame}
+use Rattle.h264_types.specs.declared.pictures.frames.Frame.{Frame}
 use Rattle.picture_keys.specs.Following.{UnitNumbers}
 use Rattle.picture_keys.specs.Numbered.{number_at}
 use Rattle.picture_store.proofs.refitting.agree_on.Goals as goal

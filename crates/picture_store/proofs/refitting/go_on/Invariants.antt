@@ -1,6 +1,6 @@
 use Rattle.std.proofs.Common.{◌≡◌, ◌++◌, ℕ, List, [], take}
 use Rattle.unit_outcomes.specs.declared.outcome.Outcome.{Outcome}
-use Rattle.dep_keys.specs.KeyMaps.{Extends, IsKeyMap}
+use Rattle.decode_jobs.specs.KeyMaps.{Extends, IsKeyMap}
 use Rattle.picture_keys.specs.Following.{AreNumberedSome, Follow}
 use Rattle.picture_keys.specs.Known.{Known}
 use Rattle.picture_keys.specs.Numbered.{number_at, numbers_over}

@@ -1,7 +1,7 @@
 use Rattle.std.proofs.Common.{◌≤◌, ◌++◌, ℕ, List, length, take}
 use Rattle.std.specs.List.{zip}
 use Rattle.unit_outcomes.specs.declared.outcome.Outcome.{Outcome}
-use Rattle.dep_keys.specs.KeyMaps.{Extends, IsKeyMap}
+use Rattle.decode_jobs.specs.KeyMaps.{Extends, IsKeyMap}
 use Rattle.picture_keys.specs.Following.{AreNumberedSome, Follow}
 use Rattle.picture_keys.specs.Known.{Known}
 use Rattle.picture_store.proofs.refitting.go_over.Given as goal

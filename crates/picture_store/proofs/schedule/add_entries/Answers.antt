@@ -1,7 +1,7 @@
 use Rattle.std.proofs.Common.{sym, ◌∙◌, subst, Contains, Some, inl, inr}
 use Rattle.std.specs.Prelude.{IfSome}
 use Rattle.std.proofs.lemmas.List.{take_all}
-use Rattle.key_slots.specs.Held.{IsHeld}
+use Rattle.held_pictures.specs.Held.{IsHeld}
 use Rattle.picture_store.specs.Schedules.{WaitsFor}
 use Rattle.picture_store.proofs.Loops.{in_more}
 use Rattle.picture_store.proofs.schedule.add_entries.Goals as goal

@@ -1,5 +1,5 @@
 use Rattle.std.proofs.Common.{◌≡◌, ℕ, ◌⊎◌, Contains, Some, take}
-use Rattle.key_slots.specs.Held.{IsHeld}
+use Rattle.held_pictures.specs.Held.{IsHeld}
 use Rattle.picture_store.specs.Schedules.{WaitsFor}
 use Rattle.picture_store.proofs.schedule.add_entries.Given as goal
 

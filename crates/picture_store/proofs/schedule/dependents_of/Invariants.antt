@@ -1,5 +1,5 @@
 use Rattle.std.proofs.Common.{ℕ, Contains, take}
-use Rattle.key_slots.specs.Held.{IsHeld}
+use Rattle.held_pictures.specs.Held.{IsHeld}
 use Rattle.picture_store.specs.Schedules.{RefersTo, WaitsFor}
 use Rattle.picture_store.proofs.schedule.dependents_of.Given as goal
 

@@ -2,7 +2,7 @@ use Rattle.plan_stream.proofs.PlanEnds.{ends-print, ends-refusal, planned, refus
 use Rattle.plan_stream.specs.Folds.{IsFoldOf}
 use Rattle.plan_stream.specs.Streams.{numbered_from}
 use Rattle.plan_stream.specs.StreamText.{stream_text}
-use Rattle.unit_lines.specs.Refusals.{refusal_text}
+use Rattle.unit_printing.specs.Refusals.{refusal_text}
 use Rattle.plan_stream.proofs.plan.print_gathered.Goals as goal
 
 pub returns-in-Ok-print_all-clause-planned : goal.returns-in-Ok-print_all-clause-planned

@@ -2,7 +2,7 @@
 
 use super::{Files, OPTIONS, Row, is_as};
 use console_io::Status;
-use shared_run::audit_with_workers;
+use script_run::shared::audit_with_workers;
 use std::process::Abort;
 use std::sync::Wait;
 use std::thread::Threads;

@@ -3,7 +3,7 @@
 use super::{Files, OPTIONS, REPAIRED, Row, is_as};
 use console_io::Status;
 use script_run::Options;
-use shared_run::script_with_workers;
+use script_run::shared::script_with_workers;
 use std::process::Abort;
 use std::sync::Wait;
 use std::thread::Threads;

@@ -3,7 +3,7 @@
 
 use super::{Files, OPTIONS, REPAIRED, Row};
 use console_io::{Sink, Status};
-use shared_run::{audit_with_workers, script_with_workers};
+use script_run::shared::{audit_with_workers, script_with_workers};
 use std::alloc::{AllocError, Global};
 use std::io;
 use std::io::{ErrorKind, Write};

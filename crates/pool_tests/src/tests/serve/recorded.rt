@@ -2,7 +2,7 @@
 
 use super::{A, ServeEnd, served_by};
 use bytes::Bytes;
-use pictures::AuId;
+use h264_types::pictures::AuId;
 use session_journal::{EditList, Records, Snapshot, Step, Unkept};
 use std::alloc::{AllocError, Global};
 use std::thread::Threads;

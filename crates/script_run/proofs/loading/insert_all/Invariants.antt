@@ -1,6 +1,6 @@
 use Rattle.std.proofs.Common.{ℕ, List, length}
 use Rattle.std.specs.Vec.Iter.{into_iter_items}
-use Rattle.edit_engine.specs.Machines.{Machine}
+use Rattle.stand_in_session.specs.Machines.{Machine}
 use Rattle.script_run.specs.Running.{InsertsAll}
 use Rattle.script_run.proofs.loading.insert_all.Given as goal
 

@@ -1,6 +1,6 @@
 use Rattle.std.proofs.Common.{◌≤◌, List}
-use Rattle.edit_engine.specs.declared.replies.TakenJob.{TakenJob}
-use Rattle.edit_engine.specs.Machines.{Machine}
+use Rattle.stand_in_session.specs.declared.replies.TakenJob.{TakenJob}
+use Rattle.stand_in_session.specs.Machines.{Machine}
 use Rattle.script_run.specs.Settling.{Settles}
 use Rattle.script_run.proofs.settling.settle_jobs.Given as goal
 

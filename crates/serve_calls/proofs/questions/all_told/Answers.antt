@@ -1,6 +1,6 @@
 use Rattle.std.proofs.Common.{◌≡◌, ◌↔◌, ◌+◌, ◌<◌, ℕ, List, IsTrue, length, subst, sym, refl, arith}
 use Rattle.std.proofs.lemmas.List.{get_or_read_under}
-use Rattle.doubts.specs.InDoubt.{IsDoubt}
+use Rattle.unit_outcomes.specs.InDoubt.{IsDoubt}
 use Rattle.stream_session.specs.Altered.{IsAltered}
 use Rattle.stream_session.specs.Doubting.{seen_in}
 use Rattle.serve_answers.specs.declared.unit_answers.Told.{Told}

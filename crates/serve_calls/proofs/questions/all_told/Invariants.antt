@@ -1,5 +1,5 @@
 use Rattle.std.proofs.Common.{ℕ, length}
-use Rattle.doubts.specs.InDoubt.{AreDoubts}
+use Rattle.unit_outcomes.specs.InDoubt.{AreDoubts}
 use Rattle.stream_session.specs.Doubting.{seen_in}
 use Rattle.serve_calls.specs.Answering.{AreToldFrom}
 use Rattle.serve_calls.proofs.questions.all_told.Given as goal

@@ -1,7 +1,7 @@
 use Rattle.std.proofs.Common.{◌≡◌, ◌∙◌, ◌≤◌, List, ℕ, length, take, drop, filter_map, ap, ap₂, subst, sym}
 use Rattle.std.specs.List.{zip}
-use Rattle.doubts.specs.InDoubt.{AreDoubts}
-use Rattle.doubts.specs.declared.doubt.Doubt.{Doubt}
+use Rattle.unit_outcomes.specs.InDoubt.{AreDoubts}
+use Rattle.unit_outcomes.specs.declared.doubts.doubt.Doubt.{Doubt}
 use Rattle.stream_edits.specs.Streams.{ids_of}
 use Rattle.stream_session.specs.Doubting.{seen_in}
 use Rattle.serve_answers.specs.declared.unit_answers.Told.{Told}

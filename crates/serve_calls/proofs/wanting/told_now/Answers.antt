@@ -1,5 +1,5 @@
 use Rattle.std.proofs.Common.{ℕ, List, None, slice_index_or, subst, sym, take}
-use Rattle.edit_engine.specs.Showing.{Shows}
+use Rattle.stand_in_session.specs.Showing.{Shows}
 use Rattle.serve_calls.specs.declared.wanted_units.WantedUnit.{WantedUnit}
 use Rattle.serve_calls.specs.Wanting.{TellsOf}
 use Rattle.serve_calls.proofs.Listing.{take-next}

@@ -1,6 +1,6 @@
 use Rattle.std.proofs.Common.{◌≡◌, ◌↔◌, List, All, IsTrue, false, subst}
-use Rattle.journal_steps.specs.declared.step.Step.{Step}
-use Rattle.session_journal.specs.Kept.{is_snapshot}
+use Rattle.session_journal.specs.declared.steps.step.Step.{Step}
+use Rattle.session_journal.specs.SessionJournalKept.{is_snapshot}
 use Rattle.session_journal.proofs.opening.is_first_only.Goals as goal
 
 pub returns : goal.returns

@@ -1,7 +1,7 @@
 use Rattle.std.proofs.Common.{◌≡◌, length, false, ◌∙◌, rules}
 use Rattle.std.specs.List.{AllByRecursion}
-use Rattle.journal_steps.specs.Kept.{IsStep}
-use Rattle.journal_steps.specs.Records.{given_by_steps, lines_of_steps}
+use Rattle.session_journal.specs.Kept.{IsStep}
+use Rattle.session_journal.specs.Records.{given_by_steps, lines_of_steps}
 use Rattle.session_journal.specs.Standing.{Standing}
 use Rattle.session_journal.proofs.OpenLemmas.{opened_end, opened_has}
 use Rattle.session_journal.proofs.opening.opened.Goals as goal

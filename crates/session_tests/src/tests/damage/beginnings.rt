@@ -3,7 +3,7 @@
 use crate::tests::{empty_session, row_holds};
 use access_unit::read_unit;
 use bytes::Bytes;
-use edit_engine::{Edit, Place, Session};
+use stand_in_session::{Edit, Place, Session};
 use std::alloc::Global;
 use unit_outcomes::{Outcome, ValidityFault};
 

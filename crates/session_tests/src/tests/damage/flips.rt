@@ -5,10 +5,10 @@
 use crate::tests::{empty_session, row_holds};
 use access_unit::{Unit, read_unit};
 use bytes::Bytes;
-use edit_engine::{Edit, EditRefused, Job, Landing, Place, Session, Shown};
-use pictures::AuId;
+use h264_types::pictures::AuId;
 use session_builders::tells_each;
 use stand_in_device::{Device, Undone};
+use stand_in_session::{Edit, EditRefused, Job, Landing, Place, Session, Shown};
 use std::alloc::{AllocError, Global};
 use std::process::Abort;
 use std::test::Fail;

@@ -8,12 +8,12 @@ use super::streams::{
 };
 use super::{empty_runner, row_holds};
 use Told::{After, Delete, First, Replace};
-use edit_engine::{
+use h264_types::pictures::AuId;
+use session_builders::{Told, edit_of};
+use stand_in_session::{
     Command, EditRefused, Landing, NotOut, Picture, Receipt, Reply, Returning, Runner, Shown,
     UnitReport,
 };
-use pictures::AuId;
-use session_builders::{Told, edit_of};
 use std::alloc::{AllocError, AllocGlobal};
 use std::process::Abort;
 use stream_session::Shown::{NoSuchUnit, Pending, Ready};

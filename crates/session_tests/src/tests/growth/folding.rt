@@ -4,9 +4,9 @@
 use super::row_holds;
 use super::streams::{Planned, STREAMS, Stream, planned};
 use access_unit::{Unit, read_unit};
-use dep_keys::{KeyId, Keys, Sha256Fingerprint};
+use decode_jobs::dep_keys::{KeyId, Keys, Sha256Fingerprint};
+use h264_types::pictures::AuId;
 use picture_keys::{KeyNumbers, SlicesDigest, Works, node_of};
-use pictures::AuId;
 use request_core::{State, Steps, step};
 use std::alloc::{AllocError, Global};
 use unit_outcomes::{Outcome, Requests};

@@ -4,8 +4,8 @@
 use super::seen::seen;
 use super::{empty_session, row_holds};
 use Told::{After, Delete, First, Replace};
-use edit_engine::{Edit, GroupReceipt, GroupRefused, Session};
 use session_builders::{Told, edits_of};
+use stand_in_session::{Edit, GroupReceipt, GroupRefused, Session};
 use std::alloc::{AllocError, AllocGlobal, Global};
 use std::process::Abort;
 use std::test::Fail;

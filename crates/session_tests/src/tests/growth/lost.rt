@@ -3,9 +3,9 @@
 use super::sessions::{edit, is_insertion, lands};
 use super::streams::{A, PICTURE_OF_A};
 use super::{appended, empty_session};
-use edit_engine::{EditRefused, Receipt, Shown};
-use pictures::AuId;
+use h264_types::pictures::AuId;
 use session_builders::Told;
+use stand_in_session::{EditRefused, Receipt, Shown};
 
 /// How many pictures an edit lost, if it was accepted.
 fn lost_by(answer: &Result<Receipt, EditRefused>) -> Option<u64> {

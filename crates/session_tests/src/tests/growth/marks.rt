@@ -4,9 +4,9 @@ use super::seen::seen;
 use super::sessions::{edit, is_insertion};
 use super::streams::A;
 use super::{appended, empty_session};
-use edit_engine::Session;
-use pictures::AuId;
+use h264_types::pictures::AuId;
 use session_builders::Told;
+use stand_in_session::Session;
 use std::process::Abort;
 
 /// Marks the stream, once more where memory runs out.

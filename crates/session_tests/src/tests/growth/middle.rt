@@ -3,9 +3,9 @@
 use super::sessions::{edit, is_insertion};
 use super::streams::{A, P1};
 use super::{appended, empty_session, row_holds};
-use edit_engine::{EditRefused, Receipt};
-use pictures::AuId;
+use h264_types::pictures::AuId;
 use session_builders::Told;
+use stand_in_session::{EditRefused, Receipt};
 
 /// How many IDR pictures the stream has.
 const UNITS: u32 = 100;

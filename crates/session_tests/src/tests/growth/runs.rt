@@ -3,7 +3,7 @@
 
 use super::acts::{Act, SCRIPTS, command_of, is_reply};
 use super::row_holds;
-use edit_engine::{Command, Config, EditRefused, Reply, run};
+use stand_in_session::{Command, Config, EditRefused, Reply, run};
 use std::alloc::{AllocError, Global};
 use std::test::Fail;
 

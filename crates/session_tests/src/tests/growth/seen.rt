@@ -1,8 +1,8 @@
 //! What a session shows of itself without taking memory.
 
 use super::streams::{Planned, planned};
-use edit_engine::{KeyId, Last, NoSuchUnit, Session, Shown};
-use pictures::AuId;
+use h264_types::pictures::AuId;
+use stand_in_session::{KeyId, Last, NoSuchUnit, Session, Shown};
 
 /// What a session says of a unit: what is shown of it, its plan, its position and the number of its
 /// key, which stands for all that its picture is made of.

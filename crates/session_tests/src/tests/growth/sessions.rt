@@ -4,12 +4,12 @@
 use super::seen::seen;
 use super::streams::{STREAMS, Stream};
 use super::{appended, empty_session, row_holds};
-use edit_engine::{
-    EditRefused, Finished, Job, Landing, Picture, Receipt, Returning, Session, Shown, TakeRefused,
-};
-use pictures::AuId;
+use h264_types::pictures::AuId;
 use session_builders::{Told, edit_of};
 use stand_in_device::{Device, Undone};
+use stand_in_session::{
+    EditRefused, Finished, Job, Landing, Picture, Receipt, Returning, Session, Shown, TakeRefused,
+};
 use std::alloc::AllocGlobal;
 use std::process::Abort;
 

@@ -6,10 +6,10 @@ use super::sessions::shown_at_last;
 use super::streams::{A, OTHER_A, STREAMS, Stream};
 use super::{appended, new_session, row_holds};
 use Told::{Delete, First, Replace};
-use edit_engine::{EditRefused, Finished, Job, Landing, Returning, Session, TakeRefused};
-use pictures::AuId;
+use h264_types::pictures::AuId;
 use session_builders::{Told, edit_of};
 use stand_in_device::{Device, Undone};
+use stand_in_session::{EditRefused, Finished, Job, Landing, Returning, Session, TakeRefused};
 use std::alloc::{AllocError, AllocGlobal, Global};
 use std::process::Abort;
 

@@ -2,7 +2,7 @@
 //! hand worked it out. The pictures are hashes that tools/model-script prints, which has nothing of
 //! the program.
 
-use edit_engine::Picture;
+use stand_in_session::Picture;
 use std::alloc::{AllocError, Global};
 use unit_outcomes::Outcome;
 

@@ -1,7 +1,7 @@
 use Rattle.std.proofs.Common.{refl}
 use Rattle.std.proofs.lemmas.Result.{err_from_is_err_and}
-use Rattle.slice_header_types.specs.SliceTypes.{has_list, is_b}
-use Rattle.param_set_types.specs.FrameNumbers.{max_frame_num}
+use Rattle.h264_types.specs.SliceTypes.{has_list, is_b}
+use Rattle.h264_types.specs.FrameNumbers.{max_frame_num}
 use Rattle.slice_header.specs.SliceHeaderSyntax.{reference_syntax, weights_of}
 use Rattle.slice_header.specs.RefPicListModificationSyntax.{modification_syntax}
 use Rattle.expgolomb.specs.Structures.{syntax_at}

@@ -3,7 +3,7 @@ use Rattle.std.proofs.Common.{◌≡◌, ◌+◌, true, false, not, sym, ◌∙�
 use Rattle.std.proofs.lemmas.Result.{err_from_is_err_and}
 use Rattle.slice_header.specs.SliceHeaderSyntax.{is_monochrome, is_weighted, weights_of}
 use Rattle.slice_header.specs.PredWeightTableSyntax.{weight_syntax}
-use Rattle.slice_header_types.specs.SliceTypes.{is_b}
+use Rattle.h264_types.specs.SliceTypes.{is_b}
 use Rattle.std.specs.Prelude.{if◌then◌else◌}
 use Rattle.expgolomb.specs.Structures.{syntax_at}
 use Rattle.slice_header.proofs.Refusals.{refuses_all}

@@ -1,7 +1,7 @@
 use Rattle.std.proofs.Common.{◌≡◌, ◌+◌, ◌++◌, drop}
 use Rattle.request_core.specs.Fold.{outcomes_of}
 use Rattle.request_core.specs.States.{no_units}
-use Rattle.unit_json.specs.StreamLines.{numbered_from}
+use Rattle.unit_printing.specs.StreamLines.{numbered_from}
 use Rattle.stream_check.specs.Problems.{problems_from}
 use Rattle.stream_check.proofs.FoldSteps.{rest_from}
 use Rattle.stream_check.proofs.folding.fold.Given as goal

@@ -1,5 +1,5 @@
 use Rattle.std.proofs.Common.{◌≡◌, ◌∙◌, ◌+◌, ◌∷◌, [], ◌++◌, ap, suc, sym, arith}
-use Rattle.unit_json.specs.Seen.{ids_from}
+use Rattle.unit_printing.specs.Seen.{ids_from}
 use Rattle.stream_check.proofs.SeenIds.{ids_more}
 use Rattle.stream_check.proofs.telling.ids.Goals as goal
 

@@ -1,5 +1,5 @@
 use Rattle.std.specs.Prelude.{◌≡◌}
-use Rattle.unit_json.specs.Seen.{ids_from}
+use Rattle.unit_printing.specs.Seen.{ids_from}
 use Rattle.stream_check.proofs.telling.ids.Given as goal
 
 -- the ids so far

@@ -1,5 +1,5 @@
 use Rattle.std.specs.Prelude.{◌≡◌, map, take}
-use Rattle.doubts.specs.References.{is_of_reference}
+use Rattle.unit_outcomes.specs.References.{is_of_reference}
 use Rattle.stream_check.proofs.telling.references.Given as goal
 
 -- what was said of the units so far

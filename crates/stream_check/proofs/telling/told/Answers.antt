@@ -1,10 +1,10 @@
 use Rattle.std.proofs.Common.{◌≡◌, ◌∙◌, ap, ap₂, sym, subst, length, arith}
 use Rattle.std.proofs.lemmas.List.{length-map}
 use Rattle.std.proofs.lemmas.Result.{IfOk-weaker}
-use Rattle.doubts.specs.SeenUnits.{seen_units}
-use Rattle.doubts.specs.InDoubt.{AreDoubts, IdsDiffer}
-use Rattle.doubts.specs.References.{is_of_reference}
-use Rattle.unit_json.specs.Seen.{stream_seen}
+use Rattle.unit_outcomes.specs.SeenUnits.{seen_units}
+use Rattle.unit_outcomes.specs.InDoubt.{AreDoubts, IdsDiffer}
+use Rattle.unit_outcomes.specs.References.{is_of_reference}
+use Rattle.unit_printing.specs.Seen.{stream_seen}
 use Rattle.stream_check.proofs.SeenIds.{ids_differ, length_ids}
 use Rattle.stream_check.proofs.telling.told.Goals as goal
 

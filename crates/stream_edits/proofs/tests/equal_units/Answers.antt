@@ -1,5 +1,5 @@
 use Rattle.std.proofs.Common.{sym, subst}
-use Rattle.changed_units.specs.Units.{AreDifferent}
+use Rattle.picture_keys.specs.Units.{AreDifferent}
 use Rattle.stream_edits.proofs.GivenIds.{AreDifferent-ids}
 use Rattle.stream_edits.proofs.tests.equal_units.Goals as goal
 

@@ -1,6 +1,6 @@
 use Rattle.std.proofs.Common.{◌+◌, ◌-◌, sym, subst, arith}
-use Rattle.doubts.specs.InDoubt.{AreDoubts}
-use Rattle.doubts.proofs.Columns.{told_more}
+use Rattle.unit_outcomes.specs.InDoubt.{AreDoubts}
+use Rattle.unit_outcomes.proofs.Columns.{told_more}
 use Rattle.stream_session.specs.Doubting.{seen_with}
 use Rattle.stream_session.proofs.doubting.doubts_of.Goals as goal
 

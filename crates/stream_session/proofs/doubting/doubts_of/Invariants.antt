@@ -1,6 +1,6 @@
 use Rattle.std.proofs.Common.{◌-◌}
-use Rattle.doubts.specs.InDoubt.{AreDoubts}
-use Rattle.doubts.specs.Walks.{IsBefore}
+use Rattle.unit_outcomes.specs.InDoubt.{AreDoubts}
+use Rattle.unit_outcomes.specs.Walks.{IsBefore}
 use Rattle.stream_session.specs.Doubting.{seen_with}
 use Rattle.stream_session.proofs.doubting.doubts_of.Given as goal
 

@@ -1,6 +1,6 @@
 use Rattle.std.proofs.Common.{length, refl, arith}
 use Rattle.std.proofs.lemmas.Option.{slice_get_read}
-use Rattle.doubts.specs.References.{is_of_reference}
+use Rattle.unit_outcomes.specs.References.{is_of_reference}
 use Rattle.stream_session.specs.Doubting.{seen_with}
 use Rattle.stream_session.proofs.InColumns.{stream_at}
 use Rattle.stream_session.proofs.doubting.pass.Goals as goal

@@ -1,8 +1,8 @@
 use Rattle.std.proofs.Common.{◌≡◌, ◌⊎◌, inl, inr, subst, arith}
-use Rattle.doubts.specs.SeenUnits.{IsIdrAt}
-use Rattle.doubts.specs.Sets.{has}
-use Rattle.doubts.specs.Walks.{Keeps}
-use Rattle.doubts.proofs.Columns.{idr_at}
+use Rattle.unit_outcomes.specs.SeenUnits.{IsIdrAt}
+use Rattle.unit_outcomes.specs.Sets.{has}
+use Rattle.unit_outcomes.specs.Walks.{Keeps}
+use Rattle.unit_outcomes.proofs.Columns.{idr_at}
 use Rattle.stream_session.specs.Doubting.{references_of, seen_with}
 use Rattle.stream_edits.specs.Streams.{ids_of}
 use Rattle.stream_session.proofs.InColumns.{many_references, many_outcomes}

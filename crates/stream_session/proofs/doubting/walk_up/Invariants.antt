@@ -1,4 +1,4 @@
-use Rattle.doubts.specs.Walks.{IsBefore}
+use Rattle.unit_outcomes.specs.Walks.{IsBefore}
 use Rattle.stream_session.specs.Doubting.{seen_with}
 use Rattle.stream_session.proofs.doubting.walk_up.Given as goal
 

@@ -3,7 +3,7 @@
 
 use super::{row_holds, summary_of};
 use annexb::{Nal, split};
-use param_set_types::{Pps, Sps};
+use h264_types::param_sets::{Pps, Sps};
 use slice_header::HeaderFault;
 use std::alloc::{AllocError, Global};
 use std::process::Abort;

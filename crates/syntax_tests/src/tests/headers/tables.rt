@@ -2,7 +2,7 @@
 
 use super::writer::Code;
 use Code::{FrameNum, LastFrameNum, Lsb, MaxFrameNum, Operations, Se, TooLong, U, Ue};
-use param_set_types::{ChromaFormat, PicOrderCntType};
+use h264_types::param_sets::{ChromaFormat, PicOrderCntType};
 
 /// A field: its place among the codes, codes that are read there, and codes that are out of its
 /// range.

@@ -1,6 +1,6 @@
 //! Codes of headers that no encoder writes.
 
-use param_set_types::Sps;
+use h264_types::param_sets::Sps;
 use std::alloc::AllocError;
 use test_builders::BitWriter;
 

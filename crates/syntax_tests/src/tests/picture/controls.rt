@@ -9,7 +9,7 @@ mod growth;
 use self::distinct::distinct_controls;
 use super::row_holds;
 use h264_controls::{Controls, Request, digest_form, sets_form, slice_form};
-use pictures::AuId;
+use h264_types::pictures::AuId;
 use std::alloc::{AllocError, Global};
 use std::test::Fail;
 use test_builders::{idr_controls, p_controls, request_of};

@@ -2,14 +2,14 @@
 
 use super::row_holds;
 use Kind::{Idr, NoReference, Reference, Resetting};
-use order_count::{Anchor, OrderRange, anchor_after, count};
-use param_set_types::{PicOrderCntType, Sps};
-use param_sets::read_sps;
-use pictures::{Counts, after_reset, resets};
-use slice_header_types::{
+use h264_types::param_sets::{PicOrderCntType, Sps};
+use h264_types::pictures::{Counts, after_reset, resets};
+use h264_types::slice_headers::{
     DecRefPicMarking, MemoryManagementControlOperation, MemoryManagementControlOperations,
     RefPicListModifications, SliceHeader,
 };
+use param_sets::read_sps;
+use slice_decoding::order_count::{Anchor, OrderRange, anchor_after, count};
 use std::alloc::{AllocError, Global};
 use std::process::Abort;
 use std::test::Fail;

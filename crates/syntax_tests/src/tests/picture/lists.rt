@@ -3,16 +3,16 @@
 mod rows;
 
 use super::row_holds;
-use base_types::AtMost;
-use order_count::{Anchor, count};
-use param_set_types::{PicOrderCntType, Sps};
-use pictures::{AuId, Counts, List, Marks};
-use ref_lists::{ListFault, lists};
-use ref_marking::mark;
-use slice_header_types::{
+use h264_types::base::AtMost;
+use h264_types::param_sets::{PicOrderCntType, Sps};
+use h264_types::pictures::{AuId, Counts, List, Marks};
+use h264_types::slice_headers::{
     DecRefPicMarking, MemoryManagementControlOperation, MemoryManagementControlOperations,
     RefPicListModification as Command, RefPicListModifications, SliceHeader, SliceType,
 };
+use slice_decoding::order_count::{Anchor, count};
+use slice_decoding::ref_lists::{ListFault, lists};
+use slice_decoding::ref_marking::mark;
 use std::alloc::{AllocError, Global};
 use std::process::Abort;
 use std::test::Fail;

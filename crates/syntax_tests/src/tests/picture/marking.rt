@@ -4,14 +4,14 @@ mod pairs;
 mod rows;
 
 use super::row_holds;
-use base_types::AtMost;
-use param_set_types::Sps;
-use pictures::{AuId, Counts, Frame, Marks, Term, frame_num_wrap};
-use ref_marking::{MarkFault, mark};
-use slice_header_types::{
+use h264_types::base::AtMost;
+use h264_types::param_sets::Sps;
+use h264_types::pictures::{AuId, Counts, Frame, Marks, Term, frame_num_wrap};
+use h264_types::slice_headers::{
     DecRefPicMarking, MemoryManagementControlOperation as Operation,
     MemoryManagementControlOperations, RefPicListModifications, SliceHeader,
 };
+use slice_decoding::ref_marking::{MarkFault, mark};
 use std::alloc::{AllocError, Global};
 use std::process::Abort;
 use std::test::Fail;
@@ -78,7 +78,7 @@ fn put(
 }
 
 /// The marks after a picture with counts 10 and 7.
-#[tactic(auto, unfolding(pictures::specs::Resetting::counts_after_reset))]
+#[tactic(auto, unfolding(h264_types::specs::Resetting::counts_after_reset))]
 fn decode(marks: &Marks, id: u32, sps: &Sps, header: &SliceHeader) -> Result<Marks, MarkFault> {
     let counts = Counts { top: 10, bottom: 7 };
     mark(marks, AuId::new(id), sps, header, counts)

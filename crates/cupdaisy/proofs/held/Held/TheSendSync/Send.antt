@@ -11,8 +11,8 @@ use Rattle.std.specs.Prelude.{Option, None, Some}
 use Rattle.std.proofs.Crossing as heap
 use Rattle.std_alloc.proofs.SendSync.{quiet, lies}
 use Rattle.std_heap.proofs.Global.TheSendSync as handle
-use Rattle.session_calls.specs.contracts.surface_session.SurfaceSession as Session
-use Rattle.session_calls.proofs.surface_session.SurfaceSession.TheSendSync.{the_send as session}
+use Rattle.c_calls.specs.contracts.surface_session.SurfaceSession as Session
+use Rattle.c_calls.proofs.surface_session.SurfaceSession.TheSendSync.{the_send as session}
 use Rattle.cupdaisy.specs.Ownership.{State, held_owns}
 use Rattle.cupdaisy.specs.contracts.held.Held.{the_row, the_type}
 

@@ -1,5 +1,5 @@
 use Rattle.std.proofs.Common.{◌≡◌, ◌+◌, ◌∙◌, ◌++◌, ◌∷◌, [], ℕ, List, length, ap, sym, subst, arith}
-use Rattle.doubts.specs.SeenUnits.{SeenUnit}
+use Rattle.unit_outcomes.specs.SeenUnits.{SeenUnit}
 use Rattle.unit_outcomes.specs.declared.outcome.Outcome.{Outcome}
 use Rattle.request_core.specs.States.{FoldState}
 use Rattle.plan_stream.specs.Shown.{shown_of}

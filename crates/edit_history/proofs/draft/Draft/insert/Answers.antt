@@ -1,6 +1,6 @@
 use Rattle.std.proofs.Common.{◌≡◌, ◌+◌, ◌<◌, List, ℕ, Some, arith, subst}
 use Rattle.stream_edits.specs.Edits.{most_ids}
-use Rattle.changed_units.specs.Units.{AreDifferent}
+use Rattle.picture_keys.specs.Units.{AreDifferent}
 use Rattle.stream_edits.specs.Streams.{start_among}
 use Rattle.edit_history.proofs.Led.{IsStream-differ, Leads-inserted}
 use Rattle.edit_history.proofs.draft.Draft.insert.Goals as goal

@@ -1,8 +1,8 @@
 use Rattle.std.proofs.Common.{◌≡◌, refl, sym, ap, ◌∙◌, subst, ◌<◌, length, Option, Some, slice_get, arith}
 use Rattle.std.specs.Option.{is_some}
 use Rattle.std.proofs.lemmas.Option.{same_Some, slice_get_read}
-use Rattle.key_slots.specs.Places.{picture_held}
-use Rattle.key_slots.proofs.Slots.{used_some}
+use Rattle.held_pictures.specs.Places.{picture_held}
+use Rattle.held_pictures.proofs.Slots.{used_some}
 use Rattle.picture_store.specs.Marks.{marked_for}
 use Rattle.picture_store.proofs.Emptied.{kept_emptied, held_emptied}
 use Rattle.picture_store.proofs.Landed.{found_length}

@@ -2,10 +2,10 @@ use Rattle.std.proofs.Common.{◌≡◌, ◌<◌, ◌≤◌, ◌-◌, ap, ℕ, L
 use Rattle.std.specs.List.{zip}
 use Rattle.std.specs.Map.{values_of}
 use Rattle.std.proofs.lemmas.List.Sums.{sum_by-take-le, sum_by-take-drop}
-use Rattle.key_slots.specs.Accounts.{pictures_of}
-use Rattle.key_slots.specs.Counting.{once_at, times, times_in}
-use Rattle.key_slots.specs.Places.{AreSame}
-use Rattle.key_slots.proofs.Taking.{times_at_most}
+use Rattle.held_pictures.specs.Accounts.{pictures_of}
+use Rattle.held_pictures.specs.Counting.{once_at, times, times_in}
+use Rattle.held_pictures.specs.Places.{AreSame}
+use Rattle.held_pictures.proofs.Taking.{times_at_most}
 use Rattle.picture_keys.specs.Known.{keys_of}
 use Rattle.picture_keys.specs.Numbered.{AllStandFor}
 use Rattle.picture_store.specs.Places.{PlacesValue, ArePlaced}

@@ -1,7 +1,7 @@
 use Rattle.std.proofs.Common.{◌≡◌, ◌+◌, ◌∙◌, ◌++◌, ◌∷◌, [], ℕ, List, length, ap, arith}
 use Rattle.unit_outcomes.specs.declared.outcome.Outcome.{Outcome}
 use Rattle.request_core.specs.States.{FoldState}
-use Rattle.unit_lines.specs.UnitLines.{outcome_tail}
+use Rattle.unit_printing.specs.UnitLines.{outcome_tail}
 use Rattle.plan_stream.specs.Shown.{shown_of}
 use Rattle.plan_stream.proofs.FoldSteps.{count_is, outcomes_more, state_more, tails_more}
 use Rattle.plan_stream.proofs.plan_fold.PlanFoldUnitFold.add.Goals as goal

@@ -1,7 +1,7 @@
 use Rattle.std.proofs.Common.{subst}
 use Rattle.stand_in_device.specs.Jobs.{JobValue}
-use Rattle.edit_engine.specs.Jobs.{AnswersLand}
-use Rattle.edit_engine.specs.Machines.{Machine}
+use Rattle.stand_in_session.specs.Jobs.{AnswersLand}
+use Rattle.stand_in_session.specs.Machines.{Machine}
 use Rattle.seat_books.specs.declared.replay.Replay.{Replay}
 use Rattle.seat_books.proofs.Decoded.{IsReplayed-decoded}
 use Rattle.seat_books.proofs.replay.Replay.decode.Goals as goal

@@ -1,5 +1,5 @@
 use Rattle.std.proofs.Common.{List, Err, ap, inl, inr, refl, subst}
-use Rattle.journal_steps.specs.declared.step.Step.{Step as Recorded}
+use Rattle.session_journal.specs.declared.steps.step.Step.{Step as Recorded}
 use Rattle.serve_calls.specs.declared.replaying.Unreplayed.{Unreplayed}
 use Rattle.serve_calls.proofs.Replayed.{left-none}
 use Rattle.serve_calls.proofs.replaying.Server+Journaled+B+K+S.replay_onto.Goals as goal

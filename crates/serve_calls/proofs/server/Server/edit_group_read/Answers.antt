@@ -1,8 +1,8 @@
 use Rattle.std.proofs.Common.{◌≡◌, List, None, refl, subst, sym, IfSome}
 use Rattle.stream_edits.specs.declared.edits.Edit.{Edit}
-use Rattle.undo_redo.specs.declared.undo_redo.UndoRedo.{UndoRedo}
-use Rattle.undo_redo.specs.Following.{AreRefusedOf, FollowsAll}
-use Rattle.undo_redo.specs.States.{IsUndoRedo}
+use Rattle.edit_history.specs.declared.undo_redo.undo_redo.UndoRedo.{UndoRedo}
+use Rattle.edit_history.specs.Following.{AreRefusedOf, FollowsAll}
+use Rattle.edit_history.specs.States.{IsUndoRedo}
 use Rattle.serve_calls.specs.Remembering.{AddsStep}
 use Rattle.serve_calls.proofs.Remembered.{group-accepted}
 use Rattle.serve_calls.proofs.server.Server.edit_group_read.Goals as goal

@@ -2,9 +2,9 @@ use Rattle.std.proofs.Common.{◌≡◌, ◌+◌, ◌≤◌, List, Result, lengt
 use Rattle.std.specs.Vec.{vec_capacity}
 use Rattle.std.specs.Vec.Iter.{into_iter_items}
 use Rattle.stream_edits.specs.declared.edits.Edit.{Edit}
-use Rattle.journal_steps.specs.declared.step.Step.{Step as Recorded}
+use Rattle.session_journal.specs.declared.steps.step.Step.{Step as Recorded}
 use Rattle.serve_requests.specs.declared.failure.Failure.{Failure}
-use Rattle.undo_redo.specs.declared.prepared.Step.{Step}
+use Rattle.edit_history.specs.declared.undo_redo.prepared.Step.{Step}
 use Rattle.serve_calls.specs.declared.loading.Inserted.{Inserted}
 use Rattle.serve_calls.specs.declared.server.Server.{Server}
 use Rattle.serve_calls.specs.Loading.{InsertsAll, none_inserted}

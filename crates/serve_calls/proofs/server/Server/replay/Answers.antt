@@ -1,7 +1,7 @@
 use Rattle.std.proofs.Common.{◌≡◌, List, Err, OnOk, subst, sym}
 use Rattle.stream_edits.specs.declared.edits.Edit.{Edit}
-use Rattle.journal_steps.specs.declared.step.Step.{Step as Recorded}
-use Rattle.journal_steps.specs.declared.step.Step.TheVariants.{Load}
+use Rattle.session_journal.specs.declared.steps.step.Step.{Step as Recorded}
+use Rattle.session_journal.specs.declared.steps.step.Step.TheVariants.{Load}
 use Rattle.serve_calls.specs.declared.replaying.Unreplayed.TheVariants as unreplayed
 use Rattle.serve_calls.specs.Replaying.{RefusesEdits, RefusesOne, ReplaysEdits, ReplaysOne}
 use Rattle.serve_calls.proofs.server.Server.replay.Goals as goal

@@ -1,5 +1,5 @@
 use Rattle.std.proofs.Common.{List, subst, sym}
-use Rattle.journal_steps.specs.declared.step.Step.{Step as Recorded}
+use Rattle.session_journal.specs.declared.steps.step.Step.{Step as Recorded}
 use Rattle.serve_calls.specs.Replaying.{ReplaysAll}
 use Rattle.serve_calls.proofs.server.Server.replay_all.Goals as goal
 

@@ -1,7 +1,7 @@
 use Rattle.std.proofs.Common.{◌≡◌, ◌+◌, ◌≤◌, length, vec_len}
 use Rattle.std.specs.Vec.{vec_capacity}
 use Rattle.std.specs.Vec.Iter.{into_iter_items}
-use Rattle.undo_redo.specs.declared.prepared.Step.{Step}
+use Rattle.edit_history.specs.declared.undo_redo.prepared.Step.{Step}
 use Rattle.serve_calls.specs.declared.server.Server.{Server}
 use Rattle.serve_calls.specs.Replaying.{MakesEach}
 use Rattle.serve_calls.proofs.server.Server.replay_each.Given as goal

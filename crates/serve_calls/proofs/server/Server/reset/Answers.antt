@@ -1,5 +1,5 @@
 use Rattle.std.proofs.Common.{ap}
-use Rattle.edit_engine.specs.Machines.{Machine}
+use Rattle.stand_in_session.specs.Machines.{Machine}
 use Rattle.serve_calls.proofs.server.Server.reset.Goals as goal
 
 pub begin_anew-requires : goal.begin_anew-requires

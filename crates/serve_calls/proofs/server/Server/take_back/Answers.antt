@@ -1,6 +1,6 @@
 use Rattle.std.proofs.Common.{◌∙◌, ◌-◌, List, Ok, ap, subst}
 use Rattle.stream_edits.specs.declared.edits.Edit.{Edit}
-use Rattle.undo_redo.specs.declared.undo_redo.UndoRedo.{UndoRedo}
+use Rattle.edit_history.specs.declared.undo_redo.undo_redo.UndoRedo.{UndoRedo}
 use Rattle.serve_calls.specs.Editing.{MakesGroup}
 use Rattle.serve_calls.proofs.Gone.{LeadsBack, gone, is-undone}
 use Rattle.serve_calls.proofs.server.Server.take_back.Goals as goal

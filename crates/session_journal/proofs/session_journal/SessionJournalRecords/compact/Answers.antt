@@ -1,6 +1,6 @@
 use Rattle.std.proofs.Common.{◌≡◌, ◌∷◌, [], ◌∙◌}
-use Rattle.journal_steps.specs.declared.step.Step.TheVariants.{Snapshot}
-use Rattle.journal_steps.specs.Kept.{kept_of_step}
+use Rattle.session_journal.specs.declared.steps.step.Step.TheVariants.{Snapshot}
+use Rattle.session_journal.specs.Kept.{kept_of_step}
 use Rattle.session_journal.proofs.KeepLemmas.{record_of}
 use Rattle.session_journal.proofs.session_journal.SessionJournalRecords.compact.Goals as goal
 

@@ -1,6 +1,6 @@
 use Rattle.std.proofs.Common.{◌≡◌, rules}
-use Rattle.journal_steps.specs.declared.step.Step.TheVariants.{Load}
-use Rattle.journal_steps.specs.Kept.{kept_of_step}
+use Rattle.session_journal.specs.declared.steps.step.Step.TheVariants.{Load}
+use Rattle.session_journal.specs.Kept.{kept_of_step}
 use Rattle.session_journal.proofs.session_journal.SessionJournalRecords.keep_load.Goals as goal
 
 pub returns-in-Some-clause-leaves : goal.returns-in-Some-clause-leaves

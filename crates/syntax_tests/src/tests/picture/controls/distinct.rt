@@ -6,8 +6,8 @@ use h264_controls::{
     V4l2CtrlH264ScalingMatrix, V4l2CtrlH264SliceParams, V4l2CtrlH264Sps, V4l2H264DpbEntry,
     V4l2H264FieldReference, V4l2H264WeightFactors,
 };
-use param_set_types::{ChromaFormat, PicOrderCntType, WeightedBipred};
-use slice_header_types::SliceType;
+use h264_types::param_sets::{ChromaFormat, PicOrderCntType, WeightedBipred};
+use h264_types::slice_headers::SliceType;
 use std::alloc::{AllocError, Global};
 use test_builders::{controls_of, list_of, shared};
 

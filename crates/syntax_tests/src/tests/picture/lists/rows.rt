@@ -1,9 +1,9 @@
 //! Lists of slices, worked by hand.
 
 use super::{Picture, Row, are_right};
-use ref_lists::ListFault::{BadModification, NoReference, OrderTie};
-use slice_header_types::RefPicListModification as Command;
-use slice_header_types::SliceType::{B, I, P, Si, Sp};
+use h264_types::slice_headers::RefPicListModification as Command;
+use h264_types::slice_headers::SliceType::{B, I, P, Si, Sp};
+use slice_decoding::ref_lists::ListFault::{BadModification, NoReference, OrderTie};
 use std::test::Fail;
 
 // Commands that name the short-term frame whose number is lower than the last by so much, or

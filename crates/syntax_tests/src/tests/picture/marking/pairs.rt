@@ -2,10 +2,10 @@
 
 use super::Marking::{Adaptive, Idr, Window};
 use super::{Frames, row_holds, row_is_right, sps_of};
-use base_types::AtMost;
-use param_set_types::Sps;
-use ref_marking::MarkFault::BadMarking;
-use slice_header_types::MemoryManagementControlOperation as Operation;
+use h264_types::base::AtMost;
+use h264_types::param_sets::Sps;
+use h264_types::slice_headers::MemoryManagementControlOperation as Operation;
+use slice_decoding::ref_marking::MarkFault::BadMarking;
 use std::alloc::{AllocError, Global};
 use std::test::Fail;
 

@@ -2,9 +2,9 @@
 
 use super::Marking::{Adaptive, Idr, NoReference, Window};
 use super::{Picture, Row, rows_are_right, rows_hold, sps_of};
-use base_types::AtMost;
-use ref_marking::MarkFault::{BadMarking, NoShortTerm, TooManyReferences};
-use slice_header_types::MemoryManagementControlOperation as Operation;
+use h264_types::base::AtMost;
+use h264_types::slice_headers::MemoryManagementControlOperation as Operation;
+use slice_decoding::ref_marking::MarkFault::{BadMarking, NoShortTerm, TooManyReferences};
 use std::test::Fail;
 
 const FIVE: Operation = Operation::FreeAll;

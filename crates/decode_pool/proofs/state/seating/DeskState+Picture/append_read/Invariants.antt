@@ -1,6 +1,6 @@
 use Rattle.std.proofs.Common.{◌≡◌, ◌+◌, length}
 use Rattle.std.specs.Vec.Iter.{into_iter_items}
-use Rattle.edit_engine.specs.Machines.{Machine}
+use Rattle.stand_in_session.specs.Machines.{Machine}
 use Rattle.decode_pool.specs.declared.appending.Appended.{Appended}
 use Rattle.decode_pool.specs.declared.seat.Seat.{Seat}
 use Rattle.decode_pool.specs.Appends.{AppendsOn}

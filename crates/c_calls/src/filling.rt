@@ -1,0 +1,18 @@
+//! Bytes and texts that are written into a caller's buffer.
+
+ghost use Rattle.c_calls.specs.Filling.{Fills};
+
+use crate::statuses::{DONE, TOO_SMALL};
+
+/// Writes the bytes at the start of the buffer, and tells how many there are; where the buffer has
+/// too little room, that alone is told.
+pub(crate) fn fill(bytes: &[u8], buffer: &mut [u8], needed: &mut usize) -> u32
+    ensures { Fills bytes.now result buffer.old buffer.new needed.new }
+{
+    *needed = bytes.len();
+    if bytes.len() > buffer.len() {
+        return TOO_SMALL;
+    }
+    buffer[..bytes.len()].copy_from_slice(bytes);
+    DONE
+}

@@ -1,4 +1,0 @@
-pub mod Lists
-pub mod Rows
-pub mod Least
-pub mod Alike

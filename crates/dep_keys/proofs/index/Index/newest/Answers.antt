@@ -1,5 +1,0 @@
-use Rattle.dep_keys.proofs.index.Index.newest.Goals as goal
-
--- src/index.rt:59:5
-pub returns : goal.returns
-returns c = rw (c.copied.ensures, c.get.ensures.value, ← c.self.view_is) (c.self.invariant.last c.args.fingerprint.now)

@@ -1,6 +1,0 @@
-use Rattle.std.proofs.Common.{◌≡◌, drop}
-use Rattle.dep_keys.specs.Marks.{all_marked}
-use Rattle.dep_keys.proofs.marks.needed.Given as goal
-
-abbrev pub invariant-loop-root : goal.invariant-loop-root
-invariant-loop-root g l = all_marked l.marks.items (drop l.root-index l.roots) ≡ all_marked l.initial.marks.items l.roots

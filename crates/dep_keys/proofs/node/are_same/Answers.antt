@@ -1,5 +1,0 @@
-use Rattle.dep_keys.proofs.SameEntries.{entries_same}
-use Rattle.dep_keys.proofs.node.are_same.Goals as goal
-
-pub returns : goal.returns
-returns c = rw c.eq.ensures (entries_same c.args.entries.now c.args.others.now)

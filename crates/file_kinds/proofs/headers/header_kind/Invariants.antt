@@ -1,7 +1,0 @@
-use Rattle.std.proofs.Common.{◌≡◌, drop}
-use Rattle.file_kinds.specs.Headers.{header_kind}
-use Rattle.file_kinds.proofs.headers.header_kind.Given as goal
-
--- no start code so far tells a kind
-abbrev pub invariant-loop-at : goal.invariant-loop-at
-invariant-loop-at l = header_kind (drop l.at l.bytes) ≡ header_kind l.bytes

@@ -1,0 +1,17 @@
+pub mod Chains
+pub mod CountTypes
+pub mod FrameNumbers
+pub mod Profiles
+pub mod SameSets
+pub mod ScaleSteps
+pub mod DefaultScalingLists
+pub mod FallBack
+pub mod InverseScan
+pub mod ScalingMatrix
+pub mod SliceTypes
+pub mod Pictures
+pub mod Operations
+pub mod PicOrderCnt
+pub mod Resetting
+pub mod MarkedFrames
+pub mod PicNums

@@ -1,0 +1,10 @@
+pub mod Bounded
+pub mod Left
+pub mod Counting
+pub mod Places
+pub mod Accounts
+pub mod Going
+pub mod Columns
+pub mod Held
+pub mod Needed
+pub mod Scanned

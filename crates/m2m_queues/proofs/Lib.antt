@@ -1,4 +1,0 @@
-pub mod Waiting
-pub mod Placing
-pub mod Numbered
-pub mod Refusing

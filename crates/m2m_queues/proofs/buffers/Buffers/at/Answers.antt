@@ -1,5 +1,0 @@
-use Rattle.m2m_queues.proofs.Numbered.{is_some-buffer_at}
-use Rattle.m2m_queues.proofs.buffers.Buffers.at.Goals as goal
-
-pub returns-clause-range : goal.returns-clause-range
-returns-clause-range c = rw (← c.self.view_is) (is_some-buffer_at c.self.inside.items.items c.args.index c.self.invariant)

@@ -1,3 +1,0 @@
-mod Near
-mod Cycles
-mod Counted

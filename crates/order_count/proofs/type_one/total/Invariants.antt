@@ -1,6 +1,0 @@
-use Rattle.std.proofs.Common.{◌≡◌, ◌*◌, ◌^◌, ◌≤◌, take, unsigned_abs}
-use Rattle.order_count.specs.TypeOne.{total}
-use Rattle.order_count.proofs.type_one.total.Given as goal
-
-abbrev pub invariant-loop-offset : goal.invariant-loop-offset
-invariant-loop-offset l = (l.sum ≡ total (take l.offset-index l.offsets)) × (unsigned_abs l.sum ≤ l.offset-index * 2 ^ 31)

@@ -1,8 +1,0 @@
-use Rattle.std.proofs.Common.{arith}
-use Rattle.std.proofs.lemmas.Int.{ints, to_z-of_z}
-use Rattle.order_count.specs.TypeZero.{type_zero}
-use Rattle.order_count.proofs.type_zero.type_zero.Goals as goal
-
-pub returns : goal.returns
-unfolding type_zero
-returns c = grind (arith, ints, to_z-of_z)

@@ -1,4 +1,0 @@
-pub mod SameSets
-pub mod FallBack
-pub mod StandardTables
-pub mod ScalingEntries

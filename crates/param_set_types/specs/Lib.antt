@@ -1,9 +1,0 @@
-pub mod CountTypes
-pub mod FrameNumbers
-pub mod Profiles
-pub mod SameSets
-pub mod ScaleSteps
-pub mod DefaultScalingLists
-pub mod FallBack
-pub mod InverseScan
-pub mod ScalingMatrix

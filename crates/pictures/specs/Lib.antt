@@ -1,4 +1,0 @@
-pub mod PicOrderCnt
-pub mod Resetting
-pub mod MarkedFrames
-pub mod PicNums

@@ -1,7 +1,0 @@
-use Rattle.std.proofs.Common.{◌≡◌, ◌+◌, ◌≤◌, ◌∷◌, length, take}
-use Rattle.ref_lists.specs.ReferenceLists.{short_term_counts}
-use Rattle.ref_lists.proofs.construction.counts_with.Given as goal
-
-abbrev pub invariant-loop-frame : goal.invariant-loop-frame
-invariant-loop-frame l =
-    (l.counts.items ≡ l.pic_order_cnt ∷ short_term_counts (take l.frame-index l.frames)) × (length l.counts.items ≤ l.frame-index + 1)

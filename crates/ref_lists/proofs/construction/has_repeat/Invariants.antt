@@ -1,6 +1,0 @@
-use Rattle.std.proofs.Common.{◌≡◌, drop}
-use Rattle.ref_lists.specs.ReferenceLists.{has_repeat}
-use Rattle.ref_lists.proofs.construction.has_repeat.Given as goal
-
-abbrev pub invariant-loop-index : goal.invariant-loop-index
-invariant-loop-index l = has_repeat (drop l.index l.numbers) ≡ has_repeat l.numbers

@@ -1,6 +1,0 @@
-use Rattle.std.proofs.Common.{take, length}
-use Rattle.ref_lists.proofs.Modifications.{IsModifiedTo}
-use Rattle.ref_lists.proofs.modification.modified.Given as goal
-
-abbrev pub invariant-loop-index : goal.invariant-loop-index
-invariant-loop-index l = IsModifiedTo l.sps l.frame_num l.frames (take (length l.fn.list) l.commands) l.fn.list l.index l.number l.list

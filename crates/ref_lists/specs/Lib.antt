@@ -1,4 +1,0 @@
-pub mod InitialLists
-pub mod Modification
-pub mod ReferenceLists
-pub mod FaultNumbers

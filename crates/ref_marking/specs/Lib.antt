@@ -1,6 +1,0 @@
-pub mod Steps
-pub mod SlidingWindow
-pub mod Operations
-pub mod Marking
-pub mod MarksAfter
-pub mod FaultNumbers

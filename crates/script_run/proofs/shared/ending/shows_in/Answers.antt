@@ -1,0 +1,5 @@
+use Rattle.std.proofs.Common.{rules}
+use Rattle.script_run.proofs.shared.ending.shows_in.Goals as goal
+
+pub returns : goal.returns
+returns c = search rules

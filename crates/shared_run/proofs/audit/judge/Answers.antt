@@ -1,4 +1,0 @@
-use Rattle.shared_run.proofs.audit.judge.Goals as goal
-
-pub returns-clause-ok : goal.returns-clause-ok
-returns-clause-ok g c = (c.in_ok-desk.seat, c.in_ok-desk.ensures.ok, c.in_ok-end.ensures)

@@ -1,5 +1,0 @@
-use Rattle.std.proofs.Common.{rules}
-use Rattle.shared_run.proofs.ending.edits_in.Goals as goal
-
-pub returns : goal.returns
-returns c = search rules

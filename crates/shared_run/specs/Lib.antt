@@ -1,5 +1,0 @@
-pub mod Running
-pub mod Stops
-pub mod Verdicts
-pub mod Audits
-pub mod WantedLines

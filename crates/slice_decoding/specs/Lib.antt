@@ -1,0 +1,17 @@
+pub mod Width
+pub mod FrameNumbers
+pub mod TypeZero
+pub mod TypeOne
+pub mod TypeTwo
+pub mod Counting
+pub mod Anchors
+pub mod Steps
+pub mod SlidingWindow
+pub mod Operations
+pub mod Marking
+pub mod MarksAfter
+pub mod FaultNumbers
+pub mod InitialLists
+pub mod Modification
+pub mod ReferenceLists
+pub mod RefListsFaultNumbers

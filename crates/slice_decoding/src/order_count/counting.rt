@@ -1,0 +1,45 @@
+ghost use Rattle.std.specs.Prelude.{◌≡◌, IsTrue, IfOk};
+ghost use Rattle.h264_types.specs.PicOrderCnt.{are_in_range};
+ghost use Rattle.h264_types.specs.Resetting.{counts_after_reset};
+ghost use Rattle.slice_decoding.specs.Counting.{counts_of};
+
+use crate::order_count::anchors::Anchor;
+use crate::order_count::fault::OrderRange;
+use crate::order_count::frame_numbers::small_offset;
+use crate::order_count::type_one::type_one;
+use crate::order_count::type_two::type_two;
+use crate::order_count::type_zero::type_zero;
+use h264_types::param_sets::{PicOrderCntType, Sps};
+use h264_types::pictures::{Counts, resets};
+use h264_types::slice_headers::SliceHeader;
+
+/// The counts of a picture, before operation 5 resets them.
+///
+/// OrderRange is refused where one of them, or of what `after_reset` keeps of them, has more than
+/// 32 bits, and where the type of counting reads a FrameNumOffset of 2^32 or more.
+#[tactic(auto, unfolding(crate::specs::Counting::counts_of))]
+pub fn count(anchor: &Anchor, sps: &Sps, header: &SliceHeader) -> Result<Counts, OrderRange>
+    ensures exact { result ≡ counts_of anchor.now sps.now header.now }
+    ensures kept { IfOk result (λ counts. IsTrue
+        (are_in_range (counts_after_reset header.now counts))) }
+{
+    let counts = match sps.pic_order_cnt_type {
+        PicOrderCntType::Zero => type_zero(anchor, sps, header),
+        PicOrderCntType::One => type_one(small_offset(anchor, sps, header)?, sps, header),
+        PicOrderCntType::Two => type_two(small_offset(anchor, sps, header)?, header),
+    };
+    let counts = counts.in_range()?;
+    if can_be_kept(header, counts) {
+        Ok(counts)
+    } else {
+        Err(OrderRange)
+    }
+}
+
+// Whether what is kept of the counts is in range.
+#[tactic(auto, unfolding(h264_types::specs::Resetting::counts_after_reset))]
+fn can_be_kept(header: &SliceHeader, counts: Counts) -> bool
+    ensures { result ≡ are_in_range (counts_after_reset header.now counts) }
+{
+    !resets(header) || counts.top.abs_diff(counts.bottom) < 1 << 31
+}

@@ -1,3 +1,0 @@
-pub mod SliceTypes
-pub mod Pictures
-pub mod Operations

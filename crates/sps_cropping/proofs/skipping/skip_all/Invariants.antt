@@ -1,7 +1,0 @@
-use Rattle.std.proofs.Common.{◌≡◌, drop}
-use Rattle.sps_cropping.specs.Skipping.{behind_all}
-use Rattle.sps_cropping.proofs.skipping.skip_all.Given as goal
-
--- behind those that are left is behind all
-abbrev pub invariant-loop-code : goal.invariant-loop-code
-invariant-loop-code l = behind_all l.codes l.initial.bits ≡ behind_all (drop l.code-index l.codes) l.bits

@@ -1,4 +1,0 @@
-pub mod Cropping
-pub mod SetCodes
-pub mod Sizes
-pub mod Skipping

@@ -1,0 +1,18 @@
+//! The queues of a stateless memory-to-memory decoder, by the Linux media documentation.
+//!
+//! A request of the Request API binds controls to an OUTPUT buffer with a slice; queued requests
+//! run in their order, and each writes to a CAPTURE buffer, which several slices of one frame may
+//! hold. `Queues` keeps requests and buffers and says which slice is next and where it goes; the
+//! work itself is a `SliceWork`, given by the crate above. What a slice's controls are is open.
+
+mod buffers;
+mod fault;
+mod queues;
+mod requests;
+mod work;
+
+pub use buffers::{Buffer, BufferState, Dequeued, MOST_BUFFERS};
+pub use fault::QueueFault;
+pub use queues::Queues;
+pub use requests::{MOST_REQUESTS, Output, Request, RequestId, RequestState};
+pub use work::{RunOne, SliceWork, Target};

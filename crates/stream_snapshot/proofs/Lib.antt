@@ -1,4 +1,0 @@
-pub mod Accepted
-mod None
-mod ReadAs
-mod Rising

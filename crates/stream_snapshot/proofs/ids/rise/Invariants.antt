@@ -1,6 +1,0 @@
-use Rattle.stream_snapshot.proofs.Rising.{HasRisen}
-use Rattle.stream_snapshot.proofs.ids.rise.Given as goal
-
--- the numbers so far rise
-abbrev pub invariant-loop-number : goal.invariant-loop-number
-invariant-loop-number l = HasRisen l.numbers l.number-index l.last

@@ -1,7 +1,0 @@
-use Rattle.std.proofs.Common.{take}
-use Rattle.stream_snapshot.specs.Snapshots.{AreReadAs}
-use Rattle.stream_snapshot.proofs.texts.read_texts.Given as goal
-
--- the texts so far are read
-abbrev pub invariant-loop-text : goal.invariant-loop-text
-invariant-loop-text l = AreReadAs (take l.text-index l.texts) l.units.items

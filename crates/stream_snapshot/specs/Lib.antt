@@ -1,3 +1,0 @@
-pub mod Snapshots
-pub mod Refusals
-pub mod Ids

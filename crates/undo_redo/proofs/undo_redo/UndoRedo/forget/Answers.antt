@@ -1,7 +1,0 @@
-use Rattle.undo_redo.proofs.undo_redo.UndoRedo.forget.Goals as goal
-
-pub returns : goal.returns
-returns c = λ states register is. record {
-  kept = is.kept;
-  history = c.new.ensures c.args.self.now.units.texts.items;
-}

@@ -1,4 +1,0 @@
-pub mod Kept
-pub mod Following
-pub mod States
-pub mod Snapshots

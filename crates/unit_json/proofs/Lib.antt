@@ -1,4 +1,0 @@
-mod FoldSteps
-mod SaidLines
-mod SeenIds
-pub mod Ends

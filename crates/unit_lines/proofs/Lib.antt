@@ -1,5 +1,0 @@
-pub mod RequestLines
-pub mod DpbTexts
-pub mod Appending
-pub mod FrameTexts
-pub mod PictureLines

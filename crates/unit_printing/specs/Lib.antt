@@ -1,0 +1,12 @@
+pub mod Growing
+pub mod Lines
+pub mod Frames
+pub mod UnitLines
+pub mod Refusals
+pub mod RequestsJson
+pub mod FramesJson
+pub mod JsonLines
+pub mod Seen
+pub mod StreamLines
+pub mod Said
+pub mod Ends

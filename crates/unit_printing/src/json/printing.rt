@@ -1,0 +1,96 @@
+//! The lines of a stream.
+
+ghost use Rattle.std.specs.Prelude.{◌≡◌, ◌≤◌, length, IsErrOf, OnOk};
+ghost use Rattle.access_unit.specs.Rooms.{most_units};
+ghost use Rattle.unit_printing.specs.JsonLines.{told_line};
+ghost use Rattle.unit_printing.specs.StreamLines.{json_lines};
+ghost use Rattle.unit_printing.specs.Said.{AreSaid, Said, SaysStream};
+
+use crate::json::folding::fold;
+use crate::json::telling::told;
+use crate::json::{DecodeMode, Encoder, JsonLine};
+use access_unit::Unit;
+use console_io::{PrintFault, Sink, write_bytes};
+use h264_types::pictures::AuId;
+use std::alloc::Global;
+use unit_outcomes::Outcome;
+use unit_outcomes::doubts::Doubt;
+
+/// Prints the line of each unit of a stream.
+pub(crate) fn print_stream<J: Encoder, W: Sink>(
+    alloc: Global,
+    encoder: &J,
+    mode: DecodeMode,
+    units: &[Unit],
+    writer: &mut W,
+) -> Result<(), PrintFault>
+    requires { length units.now ≤ most_units }
+    ensures ok { OnOk result (SaysStream J.says mode units.now
+        (W.contents writer.old) (W.contents writer.new)) }
+    ensures refused { IsErrOf result PrintFault.Unwritten → W.refuses writer.new }
+{
+    let outcomes = fold(alloc, units)?;
+    let positions = output_order::positions(alloc, &outcomes)?;
+    let told = told(alloc, units, &outcomes)?;
+    print_units(alloc, encoder, mode, &outcomes, &positions, &told, writer)
+}
+
+/// Prints the line of each unit by its outcome and what is told of it, with ids from 1 on.
+fn print_units<J: Encoder, W: Sink>(
+    alloc: Global,
+    encoder: &J,
+    mode: DecodeMode,
+    outcomes: &[Outcome],
+    positions: &[Option<usize>],
+    told: &[Doubt],
+    writer: &mut W,
+) -> Result<(), PrintFault>
+    requires positions { length positions.now ≡ length outcomes.now }
+    requires told { length told.now ≡ length outcomes.now }
+    requires few { length outcomes.now ≤ most_units }
+    ensures ok { OnOk result (AreSaid J.says
+        (json_lines mode 1 outcomes.now positions.now told.now)
+        (W.contents writer.old) (W.contents writer.new)) }
+    ensures refused { IsErrOf result PrintFault.Unwritten → W.refuses writer.new }
+{
+    for (place, outcome) in outcomes.iter().enumerate() {
+        let id = AuId::new(place as u32 + 1);
+        let (position, told) = (positions[place], told[place]);
+        print_unit(alloc, encoder, mode, id, position, outcome, told, writer)?;
+    }
+    Ok(())
+}
+
+/// Prints the line of a unit.
+fn print_unit<J: Encoder, W: Sink>(
+    alloc: Global,
+    encoder: &J,
+    mode: DecodeMode,
+    id: AuId,
+    position: Option<usize>,
+    outcome: &Outcome,
+    told: Doubt,
+    writer: &mut W,
+) -> Result<(), PrintFault>
+    ensures ok { OnOk result (Said J.says (told_line mode id position outcome.now told)
+        (W.contents writer.old) (W.contents writer.new)) }
+    ensures refused { IsErrOf result PrintFault.Unwritten → W.refuses writer.new }
+{
+    let line = JsonLine::of_told(alloc, mode, id, position, outcome, told)?;
+    print_line(alloc, encoder, &line, writer)
+}
+
+/// Prints a line.
+pub(crate) fn print_line<J: Encoder, W: Sink>(
+    alloc: Global,
+    encoder: &J,
+    line: &JsonLine,
+    writer: &mut W,
+) -> Result<(), PrintFault>
+    ensures ok { OnOk result (Said J.says line.now (W.contents writer.old)
+        (W.contents writer.new)) }
+    ensures refused { IsErrOf result PrintFault.Unwritten → W.refuses writer.new }
+{
+    let text = encoder.encode(alloc, line)?;
+    write_bytes(writer, text.as_bytes())
+}

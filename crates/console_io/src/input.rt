@@ -6,7 +6,6 @@ ghost use Rattle.std.specs.Str.{bytes_eq};
 ghost use Rattle.console_io.specs.declared.input.InputFault.TheVariants.{Memory};
 ghost use Rattle.console_io.specs.Inputs.{input_fault, is_standard, remaining_of, text_named};
 
-use crate::source::Directory;
 use std::alloc::{AllocError, Global};
 use std::io;
 use std::io::{ErrorKind, Read};
@@ -16,23 +15,6 @@ use std::io::{ErrorKind, Read};
 pub enum NamedInput<S, F> {
     StandardInput(S),
     File(F),
-}
-
-/// The standard input for `-`, else the file of that name.
-pub fn open_input<D: Directory, S: Read + Drop>(
-    directory: &D,
-    standard: S,
-    name: &str,
-) -> Result<NamedInput<S, D::File>, InputFault>
-    ensures standard { IfOk result (λ input. is_standard input ≡ bytes_eq name.now (codes "-")) }
-    ensures gives { IfOk result (λ input. remaining_of S.remaining D.File.remaining input
-        ≡ text_named (D.bytes directory.now) (S.remaining standard) name.now) }
-    ensures opened { IsErr result → bytes_eq name.now (codes "-") ≡ false }
-{
-    if name == "-" {
-        return Ok(NamedInput::StandardInput(standard));
-    }
-    Ok(NamedInput::File(directory.open(name)?))
 }
 
 impl<S: Read, F: Read> Read for NamedInput<S, F> {

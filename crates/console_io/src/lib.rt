@@ -7,6 +7,7 @@
 #![tactic(auto)]
 
 mod chunks;
+mod console;
 pub mod file_saving;
 mod input;
 mod messages;
@@ -15,7 +16,8 @@ mod source;
 mod status;
 
 pub use chunks::{Chunks, PrintFault, write_bytes};
-pub use input::{InputFault, NamedInput, open_input, read_some, whole_input};
+pub use console::{Console, Inputs};
+pub use input::{InputFault, NamedInput, read_some, whole_input};
 pub use messages::{
     say_input_fault, say_line, say_not_text, say_out_of_memory, say_print_fault, say_unread,
 };

@@ -1,5 +1,6 @@
 //! What a program reads and writes: whole inputs, files by their names, bytes for a writer,
-//! messages and statuses.
+//! messages and statuses. A `Console` is what a run writes, `Inputs` are what it reads, and
+//! `file_saving` saves a file whole.
 //!
 //! All of it is generic over the readers and writers, whose bytes the contracts name where those
 //! declare them; the system's files and streams declare none. Nothing here knows of video:

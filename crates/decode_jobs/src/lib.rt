@@ -2,7 +2,9 @@
 //!
 //! A `Job` is the requests of a picture with the pictures of its references; a `Finished` is a job
 //! with a picture that the decoder made of it. `Decoded` is what a decoder's pictures are: a ghost
-//! member says which it makes of what. Below are h264_controls and dep_keys.
+//! member says which it makes of what; `surfaces` are the pictures of a host's own decoder.
+//! `dep_keys` keeps the keys of pictures under numbers. Below is h264_controls; above are picture_keys
+//! and stand_in_device.
 #![tactic(auto)]
 
 mod decoded;

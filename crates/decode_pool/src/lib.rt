@@ -8,7 +8,7 @@
 //! A `Desk` is one at the stand-in, and has seats. Each `Seat` edits it and is shown its units, and
 //! keeps a book of that; each `worker` decodes by a `Gate`. At the end `finish` looks whether the
 //! books of all seats agree with the session's journal. Below are stream_session and worker_jobs,
-//! edit_engine and seat_books.
+//! stand_in_session and seat_books.
 //!
 //! What a call does to a session that is lent is its contract (`Seat::edit_in`,
 //! `Seat::edit_group_in`, `Seat::show_in`). No clause names what lies under a lock, so of the calls

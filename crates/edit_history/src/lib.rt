@@ -7,8 +7,9 @@
 //! `History::redone` is told so. Clauses say
 //! what becomes of the units' texts, in their order: an undo leaves those before what it takes back,
 //! whatever was undone and redone before. Ids may differ: a unit that comes back has a new one, so a
-//! history names units by their places and finds the ids when a group is asked for. Below is
-//! stream_edits, which says what a group of edits makes of a stream.
+//! history names units by their places and finds the ids when a group is asked for. `undo_redo` keeps
+//! the texts of the units beside it. Below is stream_edits, which says what a group of edits makes of
+//! a stream; above is serve_calls.
 #![tactic(auto)]
 
 mod changes;

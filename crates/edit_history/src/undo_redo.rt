@@ -7,8 +7,8 @@
 //! is one by `prepare_group` and `grouped`. `undo` and `redo` answer a group of edits, and `undone`
 //! and `redone` take in that it was made. Clauses say that the stream then has the texts that it had
 //! before the step that is taken back, whatever was undone and redone before. A stream can begin from
-//! a snapshot, and `snapshot` answers that of the stream as it is. Below are edit_history, which finds
-//! the edits that take a step back, and stream_snapshot; whoever edits a session stands above.
+//! a snapshot, and `snapshot` answers that of the stream as it is. A `History` finds the edits that
+//! take a step back; whoever edits a session stands above.
 
 mod places;
 mod prepared;

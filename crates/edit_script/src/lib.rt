@@ -6,7 +6,7 @@
 //! kinds are wrong: a session alone has no workers to tell what is wanted, and beside workers
 //! nobody takes jobs. All rest on one reading of the text; by the law `one_reading` any other has
 //! its commands and its wrong line in the same places. Below is stream_edits, whose edits the
-//! commands are; above, script_run, which runs the first, shared_run, which runs the second, and
+//! commands are; above, script_run, which runs the first two, and
 //! draw_run, which makes the third.
 #![tactic(auto)]
 

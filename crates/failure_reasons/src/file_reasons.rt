@@ -2,7 +2,7 @@
 //!
 //! `find_reason` reads a file through plan_stream's window, and says what kind of file it is and why
 //! its stream is refused, if it is; `explain_file` says that in a line, for which it needs memory.
-//! Below are file_kinds and stream_reasons, which have the words; above is failure_reasons.
+//! Below is stream_reasons, which has the words.
 
 mod counted;
 mod file_reason;

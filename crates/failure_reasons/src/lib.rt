@@ -5,7 +5,8 @@
 //! no memory for it, they have no line. Files are opened by `Again`, which opens nothing that can't be
 //! read twice. `Watched` notes whether a refusal was printed, of which there is something to say.
 //! `Explain` says why a file isn't taken while a server goes on.
-//! Below are file_reasons and script_reasons, which have the words; above are serve_run and cli.
+//! `file_reasons` and `script_reasons` have the words. Below are stream_reasons, plan_stream and
+//! edit_script; above are serve_run and cli.
 #![tactic(auto)]
 
 mod again;

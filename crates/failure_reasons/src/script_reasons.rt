@@ -2,7 +2,7 @@
 //!
 //! `explain_script` reads a script once more, and says why its first wrong line is no command, as
 //! far as the line's words tell; it needs memory for the line. Below is edit_script, which reads
-//! scripts; above is failure_reasons.
+//! scripts.
 
 mod explaining;
 mod forms;

@@ -4,8 +4,7 @@
 //! A struct has the members, the order, the types and the size of the one of
 //! <linux/v4l2-controls.h> that its line names, and a function `of` that fills it from the control.
 //! The same structs are written as JSON by `serde`: members under their names, flags as the
-//! kernel's names of those that are set, rising, joined by `|`; what is reserved is left out. Below
-//! are h264_controls and frame_requests.
+//! kernel's names of those that are set, rising, joined by `|`; what is reserved is left out.
 
 mod decode_params;
 mod dpb_entry;

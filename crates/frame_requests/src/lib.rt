@@ -2,8 +2,8 @@
 //! (V4L2_STATELESS_H264_DECODE_MODE_FRAME_BASED).
 //!
 //! It is made of the requests of the picture's slices: `FrameRequest` shares what the first of them
-//! has, with the flags of all, and `frame_bytes` joins their bytes. Below is h264_controls; above is
-//! linux_layouts.
+//! has, with the flags of all, and `frame_bytes` joins their bytes. `layouts` has the kernel's
+//! structs of all controls. Below is h264_controls; above are c_calls and unit_printing.
 #![tactic(auto)]
 
 mod flags;

@@ -1,8 +1,9 @@
 //! Sequence and picture parameter sets of H.264 (ITU-T H.264, 7.3.2.1 and 7.3.2.2).
 //!
 //! `read_sps` and `read_pps` answer exactly the set of a payload, or what its first field shows
-//! that can't be read. The sets are values of `param_set_types`, their syntax stands as
-//! `expgolomb`, and `resolve_matrix` is that of `param_set_types`.
+//! that can't be read. `cropping` reads the size of a frame. The sets and their scaling matrix are
+//! values of h264_types. Below is expgolomb, which reads codes; above are access_unit and
+//! stream_check.
 #![tactic(auto)]
 
 pub mod cropping;

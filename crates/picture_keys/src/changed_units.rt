@@ -3,9 +3,8 @@
 //!
 //! A unit is compared by its id, by the key of its picture where it is valid, and else by its fault;
 //! keys are compared by their numbers. `widen` goes over units one by one and widens a stretch by
-//! those that changed. Below are picture_keys, which numbers keys, and unit_outcomes; above are
-//! picture_store, which knows the units of a changed stream and their keys, and stream_edits, whose
-//! receipts tell the stretch.
+//! those that changed. Above are picture_store, which knows the units of a changed stream and their
+//! keys, and stream_edits, whose receipts tell the stretch.
 
 mod changed;
 mod columns;

@@ -7,7 +7,9 @@
 //!
 //! A unit's bytes are hashed once, when the unit is read: `HashedUnit` keeps the digest and how
 //! many bytes were hashed beside the unit, and `HashedOutcome` the digest beside its outcome, so
-//! that keys are looked for without the bytes. Clauses see the unit and the outcome.
+//! that keys are looked for without the bytes. Clauses see the unit and the outcome. `changed_units`
+//! finds what a change of a stream changed. Below are decode_jobs and unit_outcomes; above are
+//! held_pictures and stream_edits.
 #![tactic(auto)]
 
 pub mod changed_units;

@@ -3,7 +3,7 @@
 //! A seat is one user of a session. It keeps a `SeatBook`: a receipt of each edit and each group of
 //! edits of its own that was accepted, of each unit that it was shown and of each picture that it
 //! dropped, with the journal's length then. `audit` follows each book over the journal and finds
-//! the first receipt that the journal doesn't bear out. Below is edit_engine; above is the pool,
+//! the first receipt that the journal doesn't bear out. Below is stand_in_session; above is the pool,
 //! whose seats keep these books.
 #![tactic(auto)]
 

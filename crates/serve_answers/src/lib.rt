@@ -3,8 +3,8 @@
 //! An `Answer` is made of what a session answers, or of what is asked of it, and has just the
 //! members that are written. `result_text`, `failure_text` and `notification_text` write them, by
 //! `serde_json`, and declare nothing of their text. No session is asked here. Below are
-//! serve_requests, whose failures are answered too, edit_engine, whose replies answers are made of,
-//! stream_mending, for what is left out, and unit_json, for what becomes of a unit; above is
+//! serve_requests, whose failures are answered too, stand_in_session, whose replies answers are made of,
+//! stream_mending, for what is left out, and unit_printing, for what becomes of a unit; above is
 //! serve_calls.
 #![tactic(auto)]
 

@@ -4,7 +4,8 @@
 //! snapshot of the stream in the place of all. A `SessionJournal` is
 //! one over a journal of edit_journal, by which each step is a record that is committed and
 //! synchronised, or isn't there. `Journals` opens them by names; HostRuntime's are files
-//! (docs/JOURNAL.md). Below is journal_steps, which says what is kept of a step.
+//! (docs/JOURNAL.md). `steps` says what is kept of a step. Below are edit_journal and stream_edits;
+//! above is serve_calls.
 #![tactic(auto)]
 
 mod last_step;

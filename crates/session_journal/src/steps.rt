@@ -3,8 +3,8 @@
 //! A `Step` is what one record keeps: an edit or the edits of a group, the edits of a load, or a
 //! snapshot of the stream. `keep_group` and `keep_load` give what `Journal::append` is to be passed, and
 //! `keep_snapshot` what `Journal::rewrite` is; `read` gives the steps back of which `open` found the
-//! lines. Below are edit_journal, which keeps lines in a file, stream_edits, whose edits these are, and
-//! stream_snapshot.
+//! lines. Below are edit_journal, which keeps lines in a file, and stream_edits, whose edits and
+//! snapshots these are.
 
 mod edit_list;
 mod keeping;

@@ -1,7 +1,7 @@
 //! Slice headers of H.264 (ITU-T H.264, 7.3.3).
 //!
 //! A header is read from a slice's NAL unit, or from the start of it, and the parameter sets that
-//! it names, by the tables of `expgolomb`. It is a value of `slice_header_types`. A `Start` is the
+//! it names, by the tables of `expgolomb`. It is a value of h264_types. A `Start` is the
 //! unit with the first bytes of its payload, unescaped once: `read_from` reads the header from it,
 //! and `peek_start` the first fields, which need no parameter sets, over the same rows and faults;
 //! `peek` and `slice_type` read those from the unit, whatever follows. What the fields lead to is

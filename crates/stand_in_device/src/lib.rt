@@ -4,7 +4,7 @@
 //! A `Job` is the requests of a picture with the pictures of its references; `Device::decode` runs
 //! them through the queues of a stateless decoder, a slice at a time, and gives the picture, a
 //! SHA-256. So a request that differs in one bit, or a wrong reference, shows as another picture.
-//! Below are h264_controls and m2m_queues.
+//! `m2m_queues` has the queues. Below is decode_jobs; above is stand_in_session.
 #![tactic(auto)]
 
 mod decoding;

@@ -3,7 +3,7 @@
 //! A request of the Request API binds controls to an OUTPUT buffer with a slice; queued requests
 //! run in their order, and each writes to a CAPTURE buffer, which several slices of one frame may
 //! hold. `Queues` keeps requests and buffers and says which slice is next and where it goes; the
-//! work itself is a `SliceWork`, given by the crate above. What a slice's controls are is open.
+//! work itself is a `SliceWork`, given by who uses them. What a slice's controls are is open.
 
 mod buffers;
 mod fault;

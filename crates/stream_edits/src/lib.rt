@@ -3,9 +3,9 @@
 //! `Edit::read` reads an edit's text, once. `change_of` finds the place of an edit that is read and
 //! tests the limits: it answers the change by one unit that the edit comes to, or why the edit is
 //! refused. `ReadGroup::read` and `change_of_group` do so for a group of edits, which comes to one
-//! change. `Change::make` makes a change. Below is access_unit, which reads texts; beside this are
-//! the fold over a stream and the store of its pictures; above are those that keep a stream under
-//! edits.
+//! change. `Change::make` makes a change. `snapshots` has streams as they are written down. Below is
+//! access_unit, which reads texts; beside this are the fold over a stream and the store of its
+//! pictures; above are those that keep a stream under edits.
 #![tactic(auto)]
 
 mod acceptance;

@@ -2,8 +2,7 @@
 //!
 //! A session that begins from a snapshot has the units and the ids that the stream had, and gives no
 //! id again. `Snapshot` holds what is written down; `Snapshot::read` reads its texts, once, and
-//! refuses what no stream has. Below is stream_edits, whose streams these are; above are whoever
-//! writes snapshots down and whoever begins from them.
+//! refuses what no stream has. Above are whoever writes snapshots down and whoever begins from them.
 
 mod ids;
 mod read_snapshot;

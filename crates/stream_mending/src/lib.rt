@@ -4,7 +4,7 @@
 //! pictures would be taken for one, and tells each place and why. A `Mender` does so with a stream as
 //! it comes. What a NAL unit is and where access
 //! units end stands in annexb, what is refused in access_unit. Above are mend_run, stream_check and
-//! session_calls.
+//! c_calls.
 #![tactic(auto)]
 
 mod faults;

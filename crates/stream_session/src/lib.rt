@@ -8,7 +8,8 @@
 //! back to the host once: by `drop_picture`, by `uncache`, or by `take_released`, where an edit let it go.
 //! Below are decode_jobs, whose `Decoded` says what a decoder makes of what, stream_edits, which
 //! says what an edit is, stream_fold, which keeps the stream folded and makes anew what an edit
-//! changes, stream_snapshot, from whose streams a session may begin, and picture_store, which keeps the pictures; above is edit_engine, at the stand-in.
+//! changes, and from whose snapshots a session may begin, and picture_store, which keeps the
+//! pictures; above are stand_in_session, at the stand-in, and c_calls.
 #![tactic(auto)]
 
 mod change_costs;

@@ -3,7 +3,8 @@
 //!
 //! A fault has a number, a name and a text; slice_reading finds those that the slices of a unit
 //! show by themselves, request_core the others. The fold of `request_core` makes outcomes; output
-//! order, keys and the lines that are printed are made of them.
+//! order, keys and the lines that are printed are made of them. `doubts` tells which pictures follow
+//! a damage.
 #![tactic(auto)]
 
 pub mod doubts;

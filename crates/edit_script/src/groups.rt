@@ -44,7 +44,7 @@ pub(crate) fn read_front<'a>(
 }
 
 /// The group whose first line has the number `first`, and has these lines behind it.
-#[tactic(auto, using(crate::proofs::GroupLines::unclosed, crate::proofs::GroupLines::wrong_inside))]
+#[tactic(auto, using(crate::proofs::GroupLines::unclosed))]
 fn read_group<'a>(
     alloc: Global,
     first: usize,

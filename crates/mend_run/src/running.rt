@@ -14,7 +14,8 @@ ghost use Rattle.mend_run.specs.declared.running.MendFault.TheVariants.{Memory, 
 use crate::input::Input;
 use crate::lines::Lines;
 use console_io::{
-    Ended, InputFault, PrintFault, Sink, Status, say_out_of_memory, say_unread, write_bytes,
+    Console, Ended, InputFault, PrintFault, Sink, Status, say_out_of_memory, say_unread,
+    write_bytes,
 };
 use std::alloc::{AllocError, Global};
 use std::io::Read;
@@ -50,37 +51,37 @@ impl From<InputFault> for MendFault {
     }
 }
 
-/// Writes what stays of the stream that the reader gives, and tells `errors` what is left out, a
-/// line each; or why it isn't mended to its end. The reader has this name there. In memory is what
-/// stands between two start codes, and an access unit.
+/// Writes what stays of the stream that the reader gives as the console's output, and tells its
+/// errors what is left out, a line each; or why it isn't mended to its end. The reader has this name
+/// there. In memory is what stands between two start codes, and an access unit.
 pub fn mend_on<R: Read, W: Sink, E: Sink>(
     alloc: Global,
     name: &str,
     reader: &mut R,
-    writer: &mut W,
-    errors: &mut E,
+    console: &mut Console<W, E>,
 ) -> Ended
     // At success all that stays is written, and what is left out is told.
     ensures done { result.status ≡ Status.Success → IfSome (R.remaining reader.old) (λ text.
-        Appends (W.contents writer.old) (W.contents writer.new) (mended text)
-        × Tells result.told (E.refuses errors.new) (E.contents errors.old)
-        (E.contents errors.new) (mend_lines text)) }
+        Appends (W.contents console.old.output) (W.contents console.new.output) (mended text)
+        × Tells result.told (E.refuses console.new.errors) (E.contents console.old.errors)
+        (E.contents console.new.errors) (mend_lines text)) }
     // At a failure a front of it is, before the fault is told.
     ensures ends { result.status ≡ Status.Failure → (fault : Fault) × (said : List Told)
         × IfSome (R.remaining reader.old) (λ text.
-        EndsBy text fault (W.refuses writer.new) (W.contents writer.old) (W.contents writer.new)
+        EndsBy text fault (W.refuses console.new.output) (W.contents console.old.output)
+        (W.contents console.new.output)
         × IsFrontOf said (told text))
-        × Tells result.told (E.refuses errors.new) (E.contents errors.old) (E.contents errors.new)
-        (told_text said ++ mend_fault_text name.now fault) }
+        × Tells result.told (E.refuses console.new.errors) (E.contents console.old.errors)
+        (E.contents console.new.errors) (told_text said ++ mend_fault_text name.now fault) }
     ensures usage { result.status ≢ Status.Usage }
 {
     let mut told = Ok(());
-    match mend_through(alloc, reader, writer, errors, &mut told) {
+    match mend_through(alloc, reader, console, &mut told) {
         Ok(()) => Ended {
             status: Status::Success,
             told,
         },
-        Err(fault) => Ended::failed(say_last(fault, name, errors, told)),
+        Err(fault) => Ended::failed(say_last(fault, name, &mut console.errors, told)),
     }
 }
 
@@ -88,25 +89,25 @@ pub fn mend_on<R: Read, W: Sink, E: Sink>(
 fn mend_through<R: Read, W: Sink, E: Sink>(
     alloc: Global,
     reader: &mut R,
-    writer: &mut W,
-    errors: &mut E,
+    console: &mut Console<W, E>,
     told: &mut Result<(), PrintFault>,
 ) -> Result<(), MendFault>
     requires { IsOk told.old }
-    ensures done { OnOk result (IsWhole (R.remaining reader.old) (W.contents writer.old)
-        (W.contents writer.new) (E.refuses errors.new) (E.contents errors.old)
-        (E.contents errors.new) told.new) }
+    ensures done { OnOk result (IsWhole (R.remaining reader.old) (W.contents console.old.output)
+        (W.contents console.new.output) (E.refuses console.new.errors)
+        (E.contents console.old.errors) (E.contents console.new.errors) told.new) }
     ensures ends { IfErr result (λ fault. IsBroken (R.remaining reader.old) fault
-        (W.refuses writer.new) (W.contents writer.old) (W.contents writer.new)
-        (E.refuses errors.new) (E.contents errors.old) (E.contents errors.new) told.new) }
+        (W.refuses console.new.output) (W.contents console.old.output)
+        (W.contents console.new.output) (E.refuses console.new.errors)
+        (E.contents console.old.errors) (E.contents console.new.errors) told.new) }
 {
     let mut mender = Mender::new();
     let mut held = Vec::new(alloc);
     let mut input = Input::new(alloc)?;
     while input.read_more(reader, &mut held)? {
-        mend_held(alloc, &mut mender, &mut held, writer, errors, told)?;
+        mend_held(alloc, &mut mender, &mut held, console, told)?;
     }
-    mend_last(alloc, mender, &held, writer, errors, told)
+    mend_last(alloc, mender, &held, console, told)
 }
 
 /// Mends what is held up to the last start code in it, and passes that on. The rest stays held.
@@ -114,25 +115,26 @@ fn mend_held<W: Sink, E: Sink>(
     alloc: Global,
     mender: &mut Mender,
     held: &mut Vec<u8>,
-    writer: &mut W,
-    errors: &mut E,
+    console: &mut Console<W, E>,
     told: &mut Result<(), PrintFault>,
 ) -> Result<(), MendFault>
     ensures done { (known rest had heard : Option (List ℕ))
-        → IsSoFar known mender.old held.old.items rest had (W.contents writer.old)
-        (E.refuses errors.old) heard (E.contents errors.old) told.old
-        → OnOk result (IsSoFar known mender.new held.new.items rest had (W.contents writer.new)
-        (E.refuses errors.new) heard (E.contents errors.new) told.new) }
+        → IsSoFar known mender.old held.old.items rest had (W.contents console.old.output)
+        (E.refuses console.old.errors) heard (E.contents console.old.errors) told.old
+        → OnOk result (IsSoFar known mender.new held.new.items rest had
+        (W.contents console.new.output) (E.refuses console.new.errors) heard
+        (E.contents console.new.errors) told.new) }
     ensures ends { (known rest had heard : Option (List ℕ))
-        → IsSoFar known mender.old held.old.items rest had (W.contents writer.old)
-        (E.refuses errors.old) heard (E.contents errors.old) told.old
-        → IfErr result (λ fault. IsBroken known fault (W.refuses writer.new) had
-        (W.contents writer.new) (E.refuses errors.new) heard (E.contents errors.new) told.new) }
+        → IsSoFar known mender.old held.old.items rest had (W.contents console.old.output)
+        (E.refuses console.old.errors) heard (E.contents console.old.errors) told.old
+        → IfErr result (λ fault. IsBroken known fault (W.refuses console.new.output) had
+        (W.contents console.new.output) (E.refuses console.new.errors) heard
+        (E.contents console.new.errors) told.new) }
 {
     let rest = mender.take(alloc, held)?.len();
     let tail = held.split_off(held.len() - rest)?;
     *held = tail;
-    pass_on(alloc, &mender.drain(alloc), writer, errors, told)
+    pass_on(alloc, &mender.drain(alloc), console, told)
 }
 
 /// Mends what is held at the end of the stream, and passes that on.
@@ -140,49 +142,50 @@ fn mend_last<W: Sink, E: Sink>(
     alloc: Global,
     mut mender: Mender,
     held: &[u8],
-    writer: &mut W,
-    errors: &mut E,
+    console: &mut Console<W, E>,
     told: &mut Result<(), PrintFault>,
 ) -> Result<(), MendFault>
     ensures done { (known rest had heard : Option (List ℕ)) → IsAtEnd rest
-        → IsSoFar known mender held.now rest had (W.contents writer.old)
-        (E.refuses errors.old) heard (E.contents errors.old) told.old
-        → OnOk result (IsWhole known had (W.contents writer.new)
-        (E.refuses errors.new) heard (E.contents errors.new) told.new) }
+        → IsSoFar known mender held.now rest had (W.contents console.old.output)
+        (E.refuses console.old.errors) heard (E.contents console.old.errors) told.old
+        → OnOk result (IsWhole known had (W.contents console.new.output)
+        (E.refuses console.new.errors) heard (E.contents console.new.errors) told.new) }
     ensures ends { (known rest had heard : Option (List ℕ)) → IsAtEnd rest
-        → IsSoFar known mender held.now rest had (W.contents writer.old)
-        (E.refuses errors.old) heard (E.contents errors.old) told.old
-        → IfErr result (λ fault. IsBroken known fault (W.refuses writer.new) had
-        (W.contents writer.new) (E.refuses errors.new) heard (E.contents errors.new) told.new) }
+        → IsSoFar known mender held.now rest had (W.contents console.old.output)
+        (E.refuses console.old.errors) heard (E.contents console.old.errors) told.old
+        → IfErr result (λ fault. IsBroken known fault (W.refuses console.new.output) had
+        (W.contents console.new.output) (E.refuses console.new.errors) heard
+        (E.contents console.new.errors) told.new) }
 {
     let rest = mender.take(alloc, held)?;
     let last = mender.finish(alloc, rest)?;
-    pass_on(alloc, &last, writer, errors, told)
+    pass_on(alloc, &last, console, told)
 }
 
 /// Writes what was mended, and then tells what was left out.
 fn pass_on<W: Sink, E: Sink>(
     alloc: Global,
     mended: &Mended,
-    writer: &mut W,
-    errors: &mut E,
+    console: &mut Console<W, E>,
     told: &mut Result<(), PrintFault>,
 ) -> Result<(), MendFault>
     ensures written { OnOk result
-        (Appends (W.contents writer.old) (W.contents writer.new) mended.now.bytes.items) }
+        (Appends (W.contents console.old.output) (W.contents console.new.output)
+        mended.now.bytes.items) }
     ensures told { (heard : Option (List ℕ)) (said : List Told)
-        → Tells told.old (E.refuses errors.old) heard (E.contents errors.old) (told_text said)
-        → OnOk result (Tells told.new (E.refuses errors.new) heard (E.contents errors.new)
-        (told_text (said ++ mended.now.left_out.items))) }
-    ensures err { OnErr result ((told.new ≡ told.old) × (errors.new ≡ errors.old)) }
-    ensures unwritten { IfErr result (λ fault. PassesFront fault (W.refuses writer.new)
-        (W.contents writer.old) (W.contents writer.new) mended.now.bytes.items) }
+        → Tells told.old (E.refuses console.old.errors) heard (E.contents console.old.errors)
+        (told_text said)
+        → OnOk result (Tells told.new (E.refuses console.new.errors) heard
+        (E.contents console.new.errors) (told_text (said ++ mended.now.left_out.items))) }
+    ensures err { OnErr result ((told.new ≡ told.old) × (console.new.errors ≡ console.old.errors)) }
+    ensures unwritten { IfErr result (λ fault. PassesFront fault (W.refuses console.new.output)
+        (W.contents console.old.output) (W.contents console.new.output) mended.now.bytes.items) }
 {
     let lines = Lines(&mended.left_out).to_string(alloc)?;
-    if write_bytes(writer, &mended.bytes).is_err() {
+    if write_bytes(&mut console.output, &mended.bytes).is_err() {
         return Err(MendFault::Unwritten);
     }
-    tell(&lines, errors, told);
+    tell(&lines, &mut console.errors, told);
     Ok(())
 }
 

@@ -3,7 +3,7 @@
 
 use crate::mend_on;
 use Status::Success;
-use console_io::Status;
+use console_io::{Console, Status};
 use std::alloc::{AllocError, Global};
 use std::process::Abort;
 use std::test::Fail;
@@ -44,9 +44,14 @@ type Mend = (
 
 /// Whether the text is mended so.
 fn is_mended(rt: &(impl Abort + AllocGlobal), mut text: &[u8], written: &[u8], told: &str) -> bool {
-    let (mut output, mut errors) = (Vec::new(rt.alloc()), Vec::new(rt.alloc()));
-    let ended = mend_on(rt.alloc(), "-", &mut text, &mut output, &mut errors);
-    ended.status == Success && output.as_slice() == written && errors.as_slice() == told.as_bytes()
+    let mut console = Console {
+        output: Vec::new(rt.alloc()),
+        errors: Vec::new(rt.alloc()),
+    };
+    let ended = mend_on(rt.alloc(), "-", &mut text, &mut console);
+    ended.status == Success
+        && console.output.as_slice() == written
+        && console.errors.as_slice() == told.as_bytes()
 }
 
 /// Whether the row's stream is mended so.

@@ -4,8 +4,9 @@ use Rattle.mend_run.proofs.running.mend_through.Given as goal
 
 abbrev pub invariant-loop-input : goal.invariant-loop-input
 invariant-loop-input g l = record {
-  so_far : IsSoFar (g.R.Read.remaining l.fn.reader) l.mender l.held.items (g.R.Read.remaining l.reader) (g.W.Write.contents l.fn.writer)
-      (g.W.Write.contents l.writer) (g.E.Sink.refuses l.errors) (g.E.Write.contents l.fn.errors) (g.E.Write.contents l.errors) l.told;
+  so_far : IsSoFar (g.R.Read.remaining l.fn.reader) l.mender l.held.items (g.R.Read.remaining l.reader)
+      (g.W.Write.contents l.fn.console.output) (g.W.Write.contents l.console.output) (g.E.Sink.refuses l.console.errors)
+      (g.E.Write.contents l.fn.console.errors) (g.E.Write.contents l.console.errors) l.told;
 }
 
 abbrev pub decreases-loop-input : goal.decreases-loop-input

@@ -16,36 +16,36 @@ use crate::gathering::{StreamGathering, gather};
 use crate::plan_fold::PlanFold;
 use crate::printing::print_all;
 use access_unit::Refusal;
-use console_io::{Ended, PrintFault, Sink, Status, write_bytes};
+use console_io::{Console, Ended, PrintFault, Sink, Status, write_bytes};
 use std::alloc::Global;
 use std::io::Read;
 use unit_printing::lines::RefusalLine;
 
-/// Prints the plan of the stream that the reader gives, or its refusal. Where the reader fails or
-/// memory runs out, `errors` is told; the reader has this name there.
+/// Prints the plan of the stream that the reader gives, or its refusal, as the console's output.
+/// Where the reader fails or memory runs out, its errors are told; the reader has this name there.
 pub fn plan_on<R: Read, W: Sink, E: Sink>(
     alloc: Global,
     name: &str,
     reader: &mut R,
-    writer: &mut W,
-    errors: &mut E,
+    console: &mut Console<W, E>,
 ) -> Ended
     ensures done { result.status ≡ Status.Success
-        → Keeps (E.contents errors.old) (E.contents errors.new) }
+        → Keeps (E.contents console.old.errors) (E.contents console.new.errors) }
     // What is written at success is the plain fold of the stream that was read.
     ensures planned { result.status ≡ Status.Success → IfSome (R.remaining reader.old) (λ text.
-        WritesPlan text (W.contents writer.old) (W.contents writer.new)) }
+        WritesPlan text (W.contents console.old.output) (W.contents console.new.output)) }
     // At a failure it is what the fault that is told leaves of it.
     ensures ends { result.status ≡ Status.Failure → (fault : PlanFault)
         × IfSome (R.remaining reader.old) (λ text.
-        EndsBy text fault (W.refuses writer.new) (W.contents writer.old) (W.contents writer.new))
-        × Tells result.told (E.refuses errors.new) (E.contents errors.old) (E.contents errors.new)
-        (plan_fault_text name.now fault) }
+        EndsBy text fault (W.refuses console.new.output) (W.contents console.old.output)
+        (W.contents console.new.output))
+        × Tells result.told (E.refuses console.new.errors) (E.contents console.old.errors)
+        (E.contents console.new.errors) (plan_fault_text name.now fault) }
     ensures usage { result.status ≢ Status.Usage }
 {
-    match plan(alloc, reader, writer) {
+    match plan(alloc, reader, &mut console.output) {
         Ok(()) => Ended::done(),
-        Err(fault) => Ended::failed(say_plan_fault(fault, name, errors)),
+        Err(fault) => Ended::failed(say_plan_fault(fault, name, &mut console.errors)),
     }
 }
 

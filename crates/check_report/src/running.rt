@@ -10,7 +10,8 @@ use crate::json::json_of;
 use crate::report::Report;
 use bytes::Bytes;
 use console_io::{
-    Ended, PrintFault, Sink, Status, say_input_fault, say_print_fault, whole_input, write_bytes,
+    Console, Ended, PrintFault, Sink, Status, say_input_fault, say_print_fault, whole_input,
+    write_bytes,
 };
 use std::alloc::Global;
 use std::io::Read;
@@ -26,35 +27,35 @@ pub enum Form {
     Json,
 }
 
-/// Prints what is found of the file that the reader gives; or tells `errors` why it isn't checked.
-/// It succeeds where there is nothing to complain of. Else there is something, the file wasn't read,
-/// memory ran out, or the writer takes no more.
+/// Prints what is found of the file that the reader gives, as the console's output; or tells its
+/// errors why it isn't checked. It succeeds where there is nothing to complain of. Else there is
+/// something, the file wasn't read, memory ran out, or the output takes no more.
 pub fn check_on<R: Read, W: Sink, E: Sink>(
     threads: &(impl Threads + Sync),
     alloc: Global,
     form: Form,
     name: &str,
     reader: &mut R,
-    writer: &mut W,
-    errors: &mut E,
+    console: &mut Console<W, E>,
 ) -> Ended
     ensures fine { result.status ≡ Status.Success → IfSome (R.remaining reader.old) IsFine }
     ensures quiet { result.status ≡ Status.Success
-        → Keeps (E.contents errors.old) (E.contents errors.new) }
+        → Keeps (E.contents console.old.errors) (E.contents console.new.errors) }
     ensures told { result.status ≡ Status.Failure → (message : List ℕ)
-        × Tells result.told (E.refuses errors.new) (E.contents errors.old)
-        (E.contents errors.new) message }
+        × Tells result.told (E.refuses console.new.errors) (E.contents console.old.errors)
+        (E.contents console.new.errors) message }
     ensures ends { result.status ≡ Status.Failure
-        → FailsCheck (R.remaining reader.old) name.now result.told (W.refuses writer.new)
-        (E.refuses errors.new) (E.contents errors.old) (E.contents errors.new) }
+        → FailsCheck (R.remaining reader.old) name.now result.told (W.refuses console.new.output)
+        (E.refuses console.new.errors) (E.contents console.old.errors)
+        (E.contents console.new.errors) }
     ensures usage { result.status ≢ Status.Usage }
 {
     match whole_input(alloc, reader) {
         Ok(text) => match Bytes::from_vec(text) {
-            Ok(text) => check_text(threads, alloc, form, name, &text, writer, errors),
-            Err(_) => Ended::failed(say_print_fault(PrintFault::Memory, errors)),
+            Ok(text) => check_text(threads, alloc, form, name, &text, console),
+            Err(_) => Ended::failed(say_print_fault(PrintFault::Memory, &mut console.errors)),
         },
-        Err(fault) => Ended::failed(say_input_fault(fault, name, errors)),
+        Err(fault) => Ended::failed(say_input_fault(fault, name, &mut console.errors)),
     }
 }
 
@@ -65,24 +66,24 @@ fn check_text<W: Sink, E: Sink>(
     form: Form,
     name: &str,
     text: &Bytes,
-    writer: &mut W,
-    errors: &mut E,
+    console: &mut Console<W, E>,
 ) -> Ended
     ensures fine { result.status ≡ Status.Success → IsFine text.now }
     ensures quiet { result.status ≡ Status.Success
-        → Keeps (E.contents errors.old) (E.contents errors.new) }
+        → Keeps (E.contents console.old.errors) (E.contents console.new.errors) }
     ensures ends { result.status ≡ Status.Failure
-        → FailsText text.now result.told (W.refuses writer.new)
-        (E.refuses errors.new) (E.contents errors.old) (E.contents errors.new) }
+        → FailsText text.now result.told (W.refuses console.new.output)
+        (E.refuses console.new.errors) (E.contents console.old.errors)
+        (E.contents console.new.errors) }
     ensures usage { result.status ≢ Status.Usage }
 {
     match check(threads, alloc, text) {
-        Ok(found) => match print(alloc, form, name, &found, writer) {
+        Ok(found) => match print(alloc, form, name, &found, &mut console.output) {
             Ok(()) if found.is_fine() => Ended::done(),
-            Ok(()) => Ended::failed(say_nothing(errors)),
-            Err(fault) => Ended::failed(say_print_fault(fault, errors)),
+            Ok(()) => Ended::failed(say_nothing(&mut console.errors)),
+            Err(fault) => Ended::failed(say_print_fault(fault, &mut console.errors)),
         },
-        Err(_) => Ended::failed(say_print_fault(PrintFault::Memory, errors)),
+        Err(_) => Ended::failed(say_print_fault(PrintFault::Memory, &mut console.errors)),
     }
 }
 

@@ -19,9 +19,10 @@ use crate::marking::{mark, say_altered};
 use crate::messages::say_run_fault;
 use crate::options::Options;
 use crate::run_fault::RunFault;
+use crate::script::Script;
 use crate::settling::settle;
 use crate::shown_lines::shown_line;
-use console_io::{Ended, Sink, Source, Status, whole_input, write_bytes};
+use console_io::{Console, Ended, Sink, Source, Status, whole_input, write_bytes};
 use edit_script::{SessionCommand as Command, id_of_number, read_session_script};
 use h264_types::pictures::AuId;
 use stand_in_session::{
@@ -33,112 +34,116 @@ use std::thread::Threads;
 use unit_printing::json::{DecodeMode, Encoder, JsonLine};
 use unit_printing::lines::UnitLines;
 
-/// Runs the script that the reader gives, whose files the source gives, on a session of its own.
-/// Each line that is a command is answered by one write, and `json` by a line of this encoder. Why
-/// the run ends before the script does is told to `errors`.
-pub fn script_on<J: Encoder, R: Read, S: Source, W: Sink, E: Sink>(
+/// What a script's commands are run on: a session, and the files that they name. Pictures are
+/// printed with digits where `hex` asks for them.
+#[derive(Drop)]
+struct Interpreter<S> {
+    runner: Runner,
+    files: S,
+    hex: bool,
+}
+
+/// Runs the script on a session of its own. Each line that is a command is answered by one write,
+/// and `json` by a line of this encoder. Why the run ends before the script does is told to the
+/// console's `errors`.
+pub fn script_on<J: Encoder, R: Read + Drop, S: Source + Drop, W: Sink, E: Sink>(
     threads: &(impl Threads + Sync),
     alloc: Global,
     encoder: &J,
     options: Options<'_>,
-    reader: &mut R,
-    source: &mut S,
-    writer: &mut W,
-    errors: &mut E,
+    script: Script<R, S>,
+    console: &mut Console<W, E>,
 ) -> Ended
     ensures done { result.status ≡ Status.Success
-        → Keeps (E.contents errors.old) (E.contents errors.new) }
+        → Keeps (E.contents console.old.errors) (E.contents console.new.errors) }
     // What is written at success is a run of the script that was read.
-    ensures answered { result.status ≡ Status.Success → IfSome (R.remaining reader.old) (λ text.
-        WritesScript J.says (S.file source.old) text options.entry.cache options.entry.hex
-        (W.contents writer.old) (W.contents writer.new)) }
+    ensures answered { result.status ≡ Status.Success → IfSome (R.remaining script.text) (λ text.
+        WritesScript J.says (S.file script.files) text options.entry.cache options.entry.hex
+        (W.contents console.old.output) (W.contents console.new.output)) }
     // At a failure it is what the fault that is told leaves of it.
     ensures stops { result.status ≡ Status.Failure → (fault : RunFault)
-        × IfSome (R.remaining reader.old) (λ text.
-        StopsBy J.says (S.file source.old) options.entry.name.now text options.entry.cache
-        options.entry.hex fault
-        (W.refuses writer.new) (W.contents writer.old) (W.contents writer.new))
-        × Tells result.told (E.refuses errors.new) (E.contents errors.old) (E.contents errors.new)
-        (run_fault_text fault) }
+        × IfSome (R.remaining script.text) (λ text.
+        StopsBy J.says (S.file script.files) options.entry.name.now text options.entry.cache
+        options.entry.hex fault (W.refuses console.new.output)
+        (W.contents console.old.output) (W.contents console.new.output))
+        × Tells result.told (E.refuses console.new.errors)
+        (E.contents console.old.errors) (E.contents console.new.errors) (run_fault_text fault) }
     ensures usage { result.status ≢ Status.Usage }
 {
-    let text = match whole_input(alloc, reader) {
+    let Script {
+        text: mut reader,
+        files,
+    } = script;
+    let text = match whole_input(alloc, &mut reader) {
         Ok(text) => text,
         Err(fault) => {
             let fault = RunFault::of_input(fault, options.name);
-            return Ended::failed(say_run_fault(fault, errors));
+            return Ended::failed(say_run_fault(fault, &mut console.errors));
         }
+    };
+    let script = Script {
+        text: text.as_slice(),
+        files,
     };
     match run_text(
         threads,
         alloc,
         encoder,
         options,
-        text.as_slice(),
-        source,
-        writer,
+        script,
+        &mut console.output,
     ) {
         Ok(()) => Ended::done(),
-        Err(fault) => Ended::failed(say_run_fault(fault, errors)),
+        Err(fault) => Ended::failed(say_run_fault(fault, &mut console.errors)),
     }
 }
 
 /// Runs the script of this text. Where a line is no command of a session, nothing is run.
-fn run_text<'a, J: Encoder, S: Source, W: Sink>(
+fn run_text<'a, J: Encoder, S: Source + Drop, W: Sink>(
     threads: &(impl Threads + Sync),
     alloc: Global,
     encoder: &J,
     options: Options<'_>,
-    text: &'a [u8],
-    source: &mut S,
+    script: Script<&'a [u8], S>,
     writer: &mut W,
 ) -> Result<(), RunFault<'a>>
     ensures ok { OnOk result
-        (WritesScript J.says (S.file source.old) text.now options.entry.cache
+        (WritesScript J.says (S.file script.entry.files) script.entry.text.now options.entry.cache
         options.entry.hex (W.contents writer.old) (W.contents writer.new)) }
     ensures stops { IfErr result (λ fault. StopsText J.says
-        (S.file source.old) text.now options.entry.cache options.entry.hex fault
-        (W.refuses writer.new) (W.contents writer.old) (W.contents writer.new)) }
+        (S.file script.entry.files) script.entry.text.now options.entry.cache options.entry.hex
+        fault (W.refuses writer.new) (W.contents writer.old) (W.contents writer.new)) }
 {
-    let commands = read_session_script(alloc, text)?;
-    let (cache, hex) = (options.cache, options.hex);
+    let commands = read_session_script(alloc, script.text)?;
+    let (cache, hex, files) = (options.cache, options.hex, script.files);
     // The options are in range.
-    let Ok(mut runner) = Runner::new(alloc, Config { cache }) else {
+    let Ok(runner) = Runner::new(alloc, Config { cache }) else {
         return Err(RunFault::Memory);
     };
-    run_commands(
-        threads,
-        alloc,
-        encoder,
-        commands,
-        hex,
-        &mut runner,
-        source,
-        writer,
-    )
+    let mut interpreter = Interpreter { runner, files, hex };
+    run_commands(threads, alloc, encoder, commands, &mut interpreter, writer)
 }
 
-/// Runs the commands one after the other, and writes what each one prints, pictures with digits
-/// where `hex` asks for them.
+/// Runs the commands one after the other, and writes what each one prints.
 fn run_commands<'a, J: Encoder, S: Source, W: Sink>(
     threads: &(impl Threads + Sync),
     alloc: Global,
     encoder: &J,
     commands: Vec<Command<'a>>,
-    hex: bool,
-    runner: &mut Runner,
-    source: &mut S,
+    interpreter: &mut Interpreter<S>,
     writer: &mut W,
 ) -> Result<(), RunFault<'a>>
     ensures ok { OnOk result
-        (WritesRun J.says (S.file source.old) hex runner.old commands.entry.items runner.new
+        (WritesRun J.says (S.file interpreter.old.files) interpreter.old.hex interpreter.old.runner
+        commands.entry.items interpreter.new.runner
         (W.contents writer.old) (W.contents writer.new)) }
     ensures stops { IfErr result (λ fault. StopsAt J.says
-        (S.file source.old) hex runner.old commands.entry.items fault
+        (S.file interpreter.old.files) interpreter.old.hex interpreter.old.runner
+        commands.entry.items fault
         (W.refuses writer.new) (W.contents writer.old) (W.contents writer.new)) }
 {
     for command in commands {
-        let lines = run_command(threads, alloc, encoder, command, hex, runner, source)?;
+        let lines = run_command(threads, alloc, encoder, command, interpreter)?;
         write_bytes(writer, lines.as_bytes())?;
     }
     Ok(())
@@ -150,17 +155,19 @@ fn run_command<'a, J: Encoder, S: Source>(
     alloc: Global,
     encoder: &J,
     command: Command<'a>,
-    hex: bool,
-    runner: &mut Runner,
-    source: &mut S,
+    interpreter: &mut Interpreter<S>,
 ) -> Result<String, RunFault<'a>>
-    ensures ok { IfOk result (λ lines. Answers J.says
-        (S.file source.old) hex runner.old command.entry (string_bytes lines) runner.new) }
-    ensures kept { (name : List ℕ) → S.file source.new name ≡ S.file source.old name }
+    ensures ok { IfOk result (λ lines. Answers J.says (S.file interpreter.old.files)
+        interpreter.old.hex interpreter.old.runner command.entry (string_bytes lines)
+        interpreter.new.runner) }
+    ensures kept { (name : List ℕ)
+        → S.file interpreter.new.files name ≡ S.file interpreter.old.files name }
+    ensures hex { interpreter.new.hex ≡ interpreter.old.hex }
     ensures named { IfErr result (IsCommandFault command.entry) }
 {
+    let (hex, runner) = (interpreter.hex, &mut interpreter.runner);
     match command {
-        Command::Load { path } => load(threads, alloc, path, runner, source),
+        Command::Load { path } => load(threads, alloc, path, runner, &mut interpreter.files),
         Command::Json { number } => Ok(say_unit(alloc, encoder, runner, number)?),
         Command::Mark => Ok(mark(alloc, runner)?),
         Command::Altered { number } => Ok(say_altered(alloc, runner.session(), number)?),

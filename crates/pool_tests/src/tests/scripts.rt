@@ -6,8 +6,8 @@ mod gates;
 mod runs;
 mod writers;
 
-use console_io::{InputFault, Source, Status};
-use script_run::Options;
+use console_io::{Console, InputFault, Source, Status};
+use script_run::{Options, Script};
 use std::alloc::{AllocError, Global};
 
 /// How a script ends: its lines, its status, what it writes and what it tells.
@@ -73,7 +73,25 @@ fn units(alloc: Global, count: usize) -> Result<Vec<u8>, InputFault> {
     Ok(bytes)
 }
 
+/// The script of this text, on these files.
+fn script_of(text: &str) -> Script<&[u8], Files> {
+    Script {
+        text: text.as_bytes(),
+        files: Files,
+    }
+}
+
+/// A console that keeps what is written.
+fn console(alloc: Global) -> Console<Vec<u8>, Vec<u8>> {
+    Console {
+        output: Vec::new(alloc),
+        errors: Vec::new(alloc),
+    }
+}
+
 /// Whether a run ended so, and wrote and told what the row says.
-fn is_as(row: &Row, status: Status, output: &[u8], errors: &[u8]) -> bool {
-    status == row.status && output == row.lines.as_bytes() && errors == row.message.as_bytes()
+fn is_as(row: &Row, status: Status, console: &Console<Vec<u8>, Vec<u8>>) -> bool {
+    status == row.status
+        && console.output.as_slice() == row.lines.as_bytes()
+        && console.errors.as_slice() == row.message.as_bytes()
 }

@@ -4,8 +4,8 @@
 use super::scripts::TestFiles;
 use super::{A, P1, P2, joined};
 use Status::Success;
-use console_io::Status;
-use script_run::{Options, script_on};
+use console_io::{Console, Status};
+use script_run::{Options, Script, script_on};
 use std::process::Abort;
 use std::test::Fail;
 use unit_printing::json::Json;
@@ -64,8 +64,7 @@ fn lines_begin(rt: &impl Abort, text: &str, fronts: &[&str]) {
 fn pictures_of_a_session_that_fit_again_are_in_doubt(rt: HostRuntime) -> Result<(), Fail> {
     let parts: [&[u8]; 7] = [&A, &P2, P3_TO_15, P0, &P1, I2, P3];
     let stream = joined(rt.alloc(), &parts)?;
-    let (mut output, mut errors) = (Vec::new(rt.alloc()), Vec::new(rt.alloc()));
-    let mut source = TestFiles {
+    let files = TestFiles {
         files: &[("stream", stream.as_slice())],
         asked: 0,
     };
@@ -74,17 +73,16 @@ fn pictures_of_a_session_that_fit_again_are_in_doubt(rt: HostRuntime) -> Result<
         cache: 64,
         hex: false,
     };
-    let ended = script_on(
-        &rt,
-        rt.alloc(),
-        &Json,
-        options,
-        &mut &*SCRIPT,
-        &mut source,
-        &mut output,
-        &mut errors,
-    );
-    assert!(rt; ended.status == Success && errors.is_empty());
-    lines_begin(&rt, std::str::from_utf8(&output)?, &LINES);
+    let script = Script {
+        text: SCRIPT,
+        files,
+    };
+    let mut console = Console {
+        output: Vec::new(rt.alloc()),
+        errors: Vec::new(rt.alloc()),
+    };
+    let ended = script_on(&rt, rt.alloc(), &Json, options, script, &mut console);
+    assert!(rt; ended.status == Success && console.errors.is_empty());
+    lines_begin(&rt, std::str::from_utf8(&console.output)?, &LINES);
     Ok(())
 }

@@ -3,8 +3,8 @@
 use super::scripts::{INSERT_A, TestFiles, ends_as};
 use super::{FAILURES, FailingReader, joined, row_holds};
 use Status::{Failure, Success};
-use console_io::Status;
-use script_run::{Options, script_on};
+use console_io::{Console, Status};
+use script_run::{Options, Script, script_on};
 use std::alloc::AllocError;
 use std::process::Abort;
 use std::test::Fail;
@@ -144,30 +144,30 @@ fn takes_text_alone_but_in_comments(rt: HostRuntime) {
 /// Whether just this is told of a reader that fails, and nothing is run.
 fn is_told(
     rt: &(impl Abort + AllocGlobal + Threads + Sync),
-    mut reader: FailingReader<'_>,
+    reader: FailingReader<'_>,
     message: &str,
 ) -> bool {
-    let (mut output, mut errors) = (Vec::new(rt.alloc()), Vec::new(rt.alloc()));
     let options = Options {
         name: "-",
         cache: 4096,
         hex: true,
     };
-    let mut source = TestFiles {
+    let files = TestFiles {
         files: &[],
         asked: 0,
     };
-    let ended = script_on(
-        rt,
-        rt.alloc(),
-        &Json,
-        options,
-        &mut reader,
-        &mut source,
-        &mut output,
-        &mut errors,
-    );
-    ended.status == Failure && output.is_empty() && errors.as_slice() == message.as_bytes()
+    let script = Script {
+        text: reader,
+        files,
+    };
+    let mut console = Console {
+        output: Vec::new(rt.alloc()),
+        errors: Vec::new(rt.alloc()),
+    };
+    let ended = script_on(rt, rt.alloc(), &Json, options, script, &mut console);
+    ended.status == Failure
+        && console.output.is_empty()
+        && console.errors.as_slice() == message.as_bytes()
 }
 
 #[test]

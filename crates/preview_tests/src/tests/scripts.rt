@@ -4,7 +4,7 @@ use super::writers::{End, ShortWriter};
 use super::{A, LINES_OF_A, P1, joined, repeated, row_holds, texts};
 use Status::{Failure, Success};
 use bytes::Bytes;
-use console_io::{Ended, InputFault, Source, Status};
+use console_io::{Console, Ended, InputFault, Source, Status};
 use script_run::{Options, script_on};
 use stand_in_session::{Config, Edit, Place, Session};
 use std::alloc::{AllocError, Global};
@@ -54,6 +54,16 @@ impl<'a> Source for TestFiles<'a> {
     }
 }
 
+/// Files that are lent to a run, so that what it asked for is known after it.
+#[derive(Drop)]
+struct LentFiles<'a, 'b>(&'a mut TestFiles<'b>);
+
+impl<'a, 'b> Source for LentFiles<'a, 'b> {
+    fn whole_file(&mut self, alloc: Global, name: &str) -> Result<Vec<u8>, InputFault> {
+        self.0.whole_file(alloc, name)
+    }
+}
+
 /// Whether a script on these files ends so, and writes just these texts on both streams.
 pub(super) fn ends_as(
     rt: &(impl Abort + AllocGlobal + Threads + Sync),
@@ -81,19 +91,19 @@ fn ends_with(
     lines: &[u8],
     message: &[u8],
 ) -> bool {
-    let (mut output, mut errors) = (Vec::new(rt.alloc()), Vec::new(rt.alloc()));
-    let mut source = TestFiles { files, asked: 0 };
-    let ended = script_on(
-        rt,
-        rt.alloc(),
-        &Json,
-        options,
-        &mut &*script,
-        &mut source,
-        &mut output,
-        &mut errors,
-    );
-    ended.status == status && output.as_slice() == lines && errors.as_slice() == message
+    let files = TestFiles { files, asked: 0 };
+    let script = script_run::Script {
+        text: script,
+        files,
+    };
+    let mut console = Console {
+        output: Vec::new(rt.alloc()),
+        errors: Vec::new(rt.alloc()),
+    };
+    let ended = script_on(rt, rt.alloc(), &Json, options, script, &mut console);
+    ended.status == status
+        && console.output.as_slice() == lines
+        && console.errors.as_slice() == message
 }
 
 /// Whether the script of these parts runs to its end and prints these lines.
@@ -312,40 +322,32 @@ fn refuses_more_than_4_194_304_bytes(rt: HostRuntime) -> Result<(), Fail> {
     Ok(())
 }
 
-/// What a writer of this room gets, how the run ends, and how many files it asks for, where nothing
-/// is told.
+/// How the run of a script to this console ends, and how many files it asks for.
 fn run_to(
     rt: &(impl Abort + AllocGlobal + Threads + Sync),
     script: &[u8],
-    writer: &mut ShortWriter,
-) -> Option<(Ended, usize)> {
-    let mut errors = Vec::new(rt.alloc());
+    console: &mut Console<ShortWriter, Vec<u8>>,
+) -> (Ended, usize) {
     let options = Options {
         name: "-",
         cache: 64,
         hex: false,
     };
     let files: [(&str, &[u8]); 1] = [("p", P1.as_slice())];
-    let mut source = TestFiles {
+    let mut files = TestFiles {
         files: files.as_slice(),
         asked: 0,
     };
-    let mut reader = script;
-    let ended = script_on(
-        rt,
-        rt.alloc(),
-        &Json,
-        options,
-        &mut reader,
-        &mut source,
-        writer,
-        &mut errors,
-    );
-    errors.is_empty().then_some((ended, source.asked))
+    let script = script_run::Script {
+        text: script,
+        files: LentFiles(&mut files),
+    };
+    let ended = script_on(rt, rt.alloc(), &Json, options, script, console);
+    (ended, files.asked)
 }
 
-/// Whether a writer of this room gets just that many bytes, the run ends so, and so many files are
-/// asked for.
+/// Whether a writer of this room gets just that many bytes, the run ends so, so many files are
+/// asked for, and nothing is told.
 fn gets(
     rt: &(impl Abort + AllocGlobal + Threads + Sync),
     script: &[u8],
@@ -354,10 +356,14 @@ fn gets(
     status: Status,
     asked: usize,
 ) -> bool {
-    let mut writer = ShortWriter::new(rt.alloc(), usize::MAX, room, End::Fails);
+    let mut console = Console {
+        output: ShortWriter::new(rt.alloc(), usize::MAX, room, End::Fails),
+        errors: Vec::new(rt.alloc()),
+    };
     let told = Ok(());
-    run_to(rt, script, &mut writer) == Some((Ended { status, told }, asked))
-        && writer.got.as_slice() == lines.split_at(room.min(lines.len())).0
+    run_to(rt, script, &mut console) == (Ended { status, told }, asked)
+        && console.errors.is_empty()
+        && console.output.got.as_slice() == lines.split_at(room.min(lines.len())).0
 }
 
 /// A unit is deleted and repaired, and the last command loads a file; and the lines of that.

@@ -11,87 +11,102 @@ use crate::shared::nowhere::Nowhere;
 use crate::shared::opening::devices;
 use crate::shared::run::run_text;
 use crate::shared::verdict::Verdict;
-use crate::{Options, RunFault, say_run_fault};
-use console_io::{Ended, Sink, Source, Status, whole_input, write_bytes};
+use crate::{Options, RunFault, Script, say_run_fault};
+use console_io::{Console, Ended, Sink, Source, Status, whole_input, write_bytes};
 use decode_pool::Gate;
 use std::alloc::Global;
 use std::io::Read;
 use std::sync::Wait;
 use std::thread::Threads;
 
-/// Audits the script that the reader gives as `audit_with` does, by so many workers with a device
-/// each.
-pub fn audit_with_workers<R: Threads + Wait + Sync, I: Read, S: Source + Drop, W: Sink, E: Sink>(
+/// Audits the script as `audit_with` does, by so many workers with a device each.
+pub fn audit_with_workers<R, I, S, W, E>(
     rt: &R,
     alloc: Global,
     options: Options<'_>,
     workers: usize,
-    reader: &mut I,
-    source: S,
-    writer: &mut W,
-    errors: &mut E,
+    script: Script<I, S>,
+    console: &mut Console<W, E>,
 ) -> Ended
+where
+    R: Threads + Wait + Sync,
+    I: Read + Drop,
+    S: Source + Drop,
+    W: Sink,
+    E: Sink,
     requires { (1 ≤ workers) × (workers ≤ 64) }
     ensures done { result.status ≡ Status.Success
-        → Keeps (E.contents errors.old) (E.contents errors.new) }
-    ensures agreed { result.status ≡ Status.Success → IfSome (I.remaining reader.old) (λ text.
-        WritesAgreed (S.file source) text (W.contents writer.old) (W.contents writer.new)) }
+        → Keeps (E.contents console.old.errors) (E.contents console.new.errors) }
+    ensures agreed { result.status ≡ Status.Success → IfSome (I.remaining script.text) (λ text.
+        WritesAgreed (S.file script.files) text
+        (W.contents console.old.output) (W.contents console.new.output)) }
     ensures fails { result.status ≡ Status.Failure → FailsAudit
-        (S.file source) options.entry.name.now (I.remaining reader.old) result.told
-        (W.refuses writer.new) (W.contents writer.old) (W.contents writer.new)
-        (E.refuses errors.new) (E.contents errors.old) (E.contents errors.new) }
+        (S.file script.files) options.entry.name.now (I.remaining script.text) result.told
+        (W.refuses console.new.output)
+        (W.contents console.old.output) (W.contents console.new.output)
+        (E.refuses console.new.errors)
+        (E.contents console.old.errors) (E.contents console.new.errors) }
     ensures usage { result.status ≢ Status.Usage }
 {
     match devices(alloc, workers) {
-        Ok(gates) => audit_with(rt, alloc, options, gates, reader, source, writer, errors),
-        Err(_) => Ended::failed(say_run_fault(RunFault::Memory, errors)),
+        Ok(gates) => audit_with(rt, alloc, options, gates, script, console),
+        Err(_) => Ended::failed(say_run_fault(RunFault::Memory, &mut console.errors)),
     }
 }
 
-/// Runs the script that the reader gives as `script_with` does, but writes nothing of what answers
-/// its lines: at the end the desk is finished, and one line says whether the seat's book agrees
-/// with the journal. Where it doesn't, that is a failure too, of which nothing is told.
+/// Runs the script as `script_with` does, but writes nothing of what answers its lines: at the end
+/// the desk is finished, and one line says whether the seat's book agrees with the journal. Where
+/// it doesn't, that is a failure too, of which nothing is told.
 pub fn audit_with<R, D, I, S, W, E>(
     rt: &R,
     alloc: Global,
     options: Options<'_>,
     gates: Vec<D>,
-    reader: &mut I,
-    source: S,
-    writer: &mut W,
-    errors: &mut E,
+    script: Script<I, S>,
+    console: &mut Console<W, E>,
 ) -> Ended
 where
     R: Threads + Wait + Sync,
     D: Gate + Send + Drop,
-    I: Read,
+    I: Read + Drop,
     S: Source + Drop,
     W: Sink,
     E: Sink,
     requires { (1 ≤ length gates.items) × (length gates.items ≤ 64) }
     ensures done { result.status ≡ Status.Success
-        → Keeps (E.contents errors.old) (E.contents errors.new) }
+        → Keeps (E.contents console.old.errors) (E.contents console.new.errors) }
     // At success the line is written that each receipt agrees.
-    ensures agreed { result.status ≡ Status.Success → IfSome (I.remaining reader.old) (λ text.
-        WritesAgreed (S.file source) text (W.contents writer.old) (W.contents writer.new)) }
+    ensures agreed { result.status ≡ Status.Success → IfSome (I.remaining script.text) (λ text.
+        WritesAgreed (S.file script.files) text
+        (W.contents console.old.output) (W.contents console.new.output)) }
     // At a failure it is the line that one doesn't, or what the fault that is told leaves.
     ensures fails { result.status ≡ Status.Failure → FailsAudit
-        (S.file source) options.entry.name.now (I.remaining reader.old) result.told
-        (W.refuses writer.new) (W.contents writer.old) (W.contents writer.new)
-        (E.refuses errors.new) (E.contents errors.old) (E.contents errors.new) }
+        (S.file script.files) options.entry.name.now (I.remaining script.text) result.told
+        (W.refuses console.new.output)
+        (W.contents console.old.output) (W.contents console.new.output)
+        (E.refuses console.new.errors)
+        (E.contents console.old.errors) (E.contents console.new.errors) }
     ensures usage { result.status ≢ Status.Usage }
 {
-    let text = match whole_input(alloc, reader) {
+    let Script {
+        text: mut reader,
+        files,
+    } = script;
+    let text = match whole_input(alloc, &mut reader) {
         Ok(text) => text,
         Err(fault) => {
             let fault = RunFault::of_input(fault, options.name);
-            return Ended::failed(say_run_fault(fault, errors));
+            return Ended::failed(say_run_fault(fault, &mut console.errors));
         }
     };
-    match audit_text(rt, alloc, options, gates, text.as_slice(), source, writer) {
+    let script = Script {
+        text: text.as_slice(),
+        files,
+    };
+    match audit_text(rt, alloc, options, gates, script, &mut console.output) {
         Ok(Verdict::Agreed { .. }) => Ended::done(),
         Ok(Verdict::Disagrees { .. }) => Ended::failed(Ok(())),
-        Err(fault) => Ended::failed(say_run_fault(fault, errors)),
+        Err(fault) => Ended::failed(say_run_fault(fault, &mut console.errors)),
     }
 }
 
@@ -101,8 +116,7 @@ fn audit_text<'a, R, D, S, W>(
     alloc: Global,
     options: Options<'_>,
     gates: Vec<D>,
-    text: &'a [u8],
-    source: S,
+    script: Script<&'a [u8], S>,
     writer: &mut W,
 ) -> Result<Verdict, RunFault<'a>>
 where
@@ -112,12 +126,13 @@ where
     W: Sink,
     requires { (1 ≤ length gates.items) × (length gates.items ≤ 64) }
     ensures ok { IfOk result (λ verdict. WritesVerdict
-        (S.file source) text.now verdict (W.contents writer.old) (W.contents writer.new)) }
+        (S.file script.entry.files) script.entry.text.now verdict
+        (W.contents writer.old) (W.contents writer.new)) }
     ensures stops { IfErr result (λ fault. EndsAudit
-        (S.file source) text.now fault
+        (S.file script.entry.files) script.entry.text.now fault
         (W.refuses writer.new) (W.contents writer.old) (W.contents writer.new)) }
 {
-    let verdict = judge(rt, alloc, options, gates, text, source)?;
+    let verdict = judge(rt, alloc, options, gates, script)?;
     let line = verdict.to_string(alloc)?;
     write_bytes(writer, line.as_bytes())?;
     Ok(verdict)
@@ -129,16 +144,15 @@ fn judge<'a, R, D, S>(
     alloc: Global,
     options: Options<'_>,
     gates: Vec<D>,
-    text: &'a [u8],
-    source: S,
+    script: Script<&'a [u8], S>,
 ) -> Result<Verdict, RunFault<'a>>
 where
     R: Threads + Wait + Sync,
     D: Gate + Send + Drop,
     S: Source + Drop,
     requires { (1 ≤ length gates.items) × (length gates.items ≤ 64) }
-    ensures ok { IfOk result (IsAudited (S.file source) text.now) }
-    ensures stops { IfErr result (StopsAudit (S.file source) text.now) }
+    ensures ok { IfOk result (IsAudited (S.file script.entry.files) script.entry.text.now) }
+    ensures stops { IfErr result (StopsAudit (S.file script.entry.files) script.entry.text.now) }
 {
     let plain = Options {
         name: options.name,
@@ -146,6 +160,6 @@ where
         hex: false,
     };
     let mut nowhere = Nowhere;
-    let (desk, seat) = run_text(rt, alloc, plain, gates, text, source, &mut nowhere)?;
+    let (desk, seat) = run_text(rt, alloc, plain, gates, script, &mut nowhere)?;
     Ok(end(alloc, desk, seat)?)
 }

@@ -20,27 +20,35 @@ use std::alloc::{AllocError, Global};
 use std::sync::Wait;
 use std::thread::Threads;
 
-/// Runs the commands one after the other, and writes what each one prints, pictures with digits
-/// where `hex` asks for them.
+/// What a script's commands are run on: a desk's seat, and the files that they name. Pictures are
+/// printed with digits where `hex` asks for them.
+#[derive(Drop)]
+pub(crate) struct Interpreter<S> {
+    pub(crate) seat: Seat,
+    pub(crate) files: S,
+    pub(crate) hex: bool,
+}
+
+/// Runs the commands one after the other, and writes what each one prints.
 pub(crate) fn run_commands<'a, R: Threads + Wait + Sync, S: Source, W: Sink>(
     rt: &R,
     alloc: Global,
     desk: &Desk,
-    seat: &mut Seat,
     commands: Vec<SeatCommand<'a>>,
-    hex: bool,
-    source: &mut S,
+    interpreter: &mut Interpreter<S>,
     writer: &mut W,
 ) -> Result<(), RunFault<'a>>
     ensures ok { OnOk result
-        (WritesRun (S.file source.old) hex seat.old commands.entry.items seat.new
+        (WritesRun (S.file interpreter.old.files) interpreter.old.hex interpreter.old.seat
+        commands.entry.items interpreter.new.seat
         (W.contents writer.old) (W.contents writer.new)) }
     ensures stops { IfErr result (λ fault. StopsAt
-        (S.file source.old) hex seat.old commands.entry.items fault
+        (S.file interpreter.old.files) interpreter.old.hex interpreter.old.seat
+        commands.entry.items fault
         (W.refuses writer.new) (W.contents writer.old) (W.contents writer.new)) }
 {
     for command in commands {
-        let lines = run_command(rt, alloc, desk, seat, command, hex, source)?;
+        let lines = run_command(rt, alloc, desk, command, interpreter)?;
         write_bytes(writer, lines.as_bytes())?;
     }
     Ok(())
@@ -51,20 +59,21 @@ fn run_command<'a, R: Threads + Wait + Sync, S: Source>(
     rt: &R,
     alloc: Global,
     desk: &Desk,
-    seat: &mut Seat,
     command: SeatCommand<'a>,
-    hex: bool,
-    source: &mut S,
+    interpreter: &mut Interpreter<S>,
 ) -> Result<String, RunFault<'a>>
-    ensures ok { IfOk result (λ lines. Answers
-        (S.file source.old) hex seat.old command.entry (string_bytes lines) seat.new) }
-    ensures kept { (name : List ℕ) → S.file source.new name ≡ S.file source.old name }
+    ensures ok { IfOk result (λ lines. Answers (S.file interpreter.old.files) interpreter.old.hex
+        interpreter.old.seat command.entry (string_bytes lines) interpreter.new.seat) }
+    ensures kept { (name : List ℕ)
+        → S.file interpreter.new.files name ≡ S.file interpreter.old.files name }
+    ensures hex { interpreter.new.hex ≡ interpreter.old.hex }
     ensures named { IfErr result (IsCommandFault command.entry) }
 {
+    let (hex, seat) = (interpreter.hex, &mut interpreter.seat);
     match command {
         SeatCommand::Edit(edit) => Ok(edit_desk(rt, alloc, desk, seat, edit)?),
         SeatCommand::Group(edits) => Ok(group_desk(rt, alloc, desk, seat, edits)?),
-        SeatCommand::Load { path } => load(rt, alloc, desk, seat, path, source),
+        SeatCommand::Load { path } => load(rt, alloc, desk, seat, path, &mut interpreter.files),
         SeatCommand::Settle => Ok(settle(rt, alloc, desk, seat)?),
         SeatCommand::SettleFor { number } => Ok(settle_for(rt, alloc, desk, seat, number)?),
         SeatCommand::Show { number } => Ok(show(rt, alloc, desk, seat, number, hex)?),

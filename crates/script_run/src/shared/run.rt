@@ -9,10 +9,11 @@ ghost use Rattle.script_run.specs.declared.run_fault.RunFault.{RunFault};
 ghost use Rattle.script_run.specs.SharedRunning.{WritesScript, WritesScriptTo};
 ghost use Rattle.script_run.specs.SharedStops.{StopsBy, StopsText};
 
+use crate::shared::commands::Interpreter;
 use crate::shared::opening::{devices, open};
-use crate::shared::threads::run_beside;
-use crate::{Options, RunFault, say_run_fault};
-use console_io::{Ended, Sink, Source, Status, say_out_of_memory, whole_input};
+use crate::shared::threads::{Pool, run_beside};
+use crate::{Options, RunFault, Script, say_run_fault};
+use console_io::{Console, Ended, Sink, Source, Status, say_out_of_memory, whole_input};
 use decode_pool::{Desk, Gate, Seat};
 use edit_script::read_seat_script;
 use std::alloc::Global;
@@ -20,86 +21,96 @@ use std::io::Read;
 use std::sync::Wait;
 use std::thread::Threads;
 
-/// Runs the script that the reader gives as `script_with` does, by so many workers with a device
-/// each.
-pub fn script_with_workers<R: Threads + Wait + Sync, I: Read, S: Source + Drop, W: Sink, E: Sink>(
+/// Runs the script as `script_with` does, by so many workers with a device each.
+pub fn script_with_workers<R, I, S, W, E>(
     rt: &R,
     alloc: Global,
     options: Options<'_>,
     workers: usize,
-    reader: &mut I,
-    source: S,
-    writer: &mut W,
-    errors: &mut E,
+    script: Script<I, S>,
+    console: &mut Console<W, E>,
 ) -> Ended
+where
+    R: Threads + Wait + Sync,
+    I: Read + Drop,
+    S: Source + Drop,
+    W: Sink,
+    E: Sink,
     requires { (1 ≤ workers) × (workers ≤ 64) }
     ensures done { result.status ≡ Status.Success
-        → Keeps (E.contents errors.old) (E.contents errors.new) }
-    ensures answered { result.status ≡ Status.Success → IfSome (I.remaining reader.old) (λ text.
-        WritesScript (S.file source) text options.entry.hex
-        (W.contents writer.old) (W.contents writer.new)) }
+        → Keeps (E.contents console.old.errors) (E.contents console.new.errors) }
+    ensures answered { result.status ≡ Status.Success → IfSome (I.remaining script.text) (λ text.
+        WritesScript (S.file script.files) text options.entry.hex
+        (W.contents console.old.output) (W.contents console.new.output)) }
     ensures stops { result.status ≡ Status.Failure → (fault : RunFault)
-        × IfSome (I.remaining reader.old) (λ text.
-        StopsBy (S.file source) options.entry.name.now text options.entry.hex fault
-        (W.refuses writer.new) (W.contents writer.old) (W.contents writer.new))
-        × Tells result.told (E.refuses errors.new) (E.contents errors.old) (E.contents errors.new)
-        (run_fault_text fault) }
+        × IfSome (I.remaining script.text) (λ text.
+        StopsBy (S.file script.files) options.entry.name.now text options.entry.hex fault
+        (W.refuses console.new.output)
+        (W.contents console.old.output) (W.contents console.new.output))
+        × Tells result.told (E.refuses console.new.errors)
+        (E.contents console.old.errors) (E.contents console.new.errors) (run_fault_text fault) }
     ensures usage { result.status ≢ Status.Usage }
 {
     match devices(alloc, workers) {
-        Ok(gates) => script_with(rt, alloc, options, gates, reader, source, writer, errors),
-        Err(_) => Ended::failed(say_run_fault(RunFault::Memory, errors)),
+        Ok(gates) => script_with(rt, alloc, options, gates, script, console),
+        Err(_) => Ended::failed(say_run_fault(RunFault::Memory, &mut console.errors)),
     }
 }
 
-/// Runs the script that the reader gives, whose files the source gives, by the one seat of a desk
-/// of its own, while a worker for each gate decodes in a thread. Each line that is a command is
-/// answered by one write. Why the run ends before the script does is told to `errors`; a thread
-/// that can't be started, and workers that have all ended while pictures are due, are told as lack
-/// of memory is.
+/// Runs the script by the one seat of a desk of its own, while a worker for each gate decodes in a
+/// thread. Each line that is a command is answered by one write. Why the run ends before the script
+/// does is told to the console's `errors`; a thread that can't be started, and workers that have
+/// all ended while pictures are due, are told as lack of memory is.
 pub fn script_with<R, D, I, S, W, E>(
     rt: &R,
     alloc: Global,
     options: Options<'_>,
     gates: Vec<D>,
-    reader: &mut I,
-    source: S,
-    writer: &mut W,
-    errors: &mut E,
+    script: Script<I, S>,
+    console: &mut Console<W, E>,
 ) -> Ended
 where
     R: Threads + Wait + Sync,
     D: Gate + Send + Drop,
-    I: Read,
+    I: Read + Drop,
     S: Source + Drop,
     W: Sink,
     E: Sink,
     requires { (1 ≤ length gates.items) × (length gates.items ≤ 64) }
     ensures done { result.status ≡ Status.Success
-        → Keeps (E.contents errors.old) (E.contents errors.new) }
+        → Keeps (E.contents console.old.errors) (E.contents console.new.errors) }
     // What is written at success are the seat's answers to the script that was read.
-    ensures answered { result.status ≡ Status.Success → IfSome (I.remaining reader.old) (λ text.
-        WritesScript (S.file source) text options.entry.hex
-        (W.contents writer.old) (W.contents writer.new)) }
+    ensures answered { result.status ≡ Status.Success → IfSome (I.remaining script.text) (λ text.
+        WritesScript (S.file script.files) text options.entry.hex
+        (W.contents console.old.output) (W.contents console.new.output)) }
     // At a failure it is what the fault that is told leaves of it.
     ensures stops { result.status ≡ Status.Failure → (fault : RunFault)
-        × IfSome (I.remaining reader.old) (λ text.
-        StopsBy (S.file source) options.entry.name.now text options.entry.hex fault
-        (W.refuses writer.new) (W.contents writer.old) (W.contents writer.new))
-        × Tells result.told (E.refuses errors.new) (E.contents errors.old) (E.contents errors.new)
-        (run_fault_text fault) }
+        × IfSome (I.remaining script.text) (λ text.
+        StopsBy (S.file script.files) options.entry.name.now text options.entry.hex fault
+        (W.refuses console.new.output)
+        (W.contents console.old.output) (W.contents console.new.output))
+        × Tells result.told (E.refuses console.new.errors)
+        (E.contents console.old.errors) (E.contents console.new.errors) (run_fault_text fault) }
     ensures usage { result.status ≢ Status.Usage }
 {
-    let text = match whole_input(alloc, reader) {
+    let Script {
+        text: mut reader,
+        files,
+    } = script;
+    let text = match whole_input(alloc, &mut reader) {
         Ok(text) => text,
         Err(fault) => {
             let fault = RunFault::of_input(fault, options.name);
-            return Ended::failed(say_run_fault(fault, errors));
+            return Ended::failed(say_run_fault(fault, &mut console.errors));
         }
     };
-    match run_text(rt, alloc, options, gates, text.as_slice(), source, writer) {
+    let script = Script {
+        text: text.as_slice(),
+        files,
+    };
+    match run_text(rt, alloc, options, gates, script, &mut console.output) {
         Ok(_) => Ended::done(),
-        Err(fault) => Ended::failed(say_run_fault(fault, errors)),
+        Err(fault) => Ended::failed(say_run_fault(fault, &mut console.errors)),
     }
 }
 
@@ -110,8 +121,7 @@ pub(crate) fn run_text<'a, R, D, S, W>(
     alloc: Global,
     options: Options<'_>,
     gates: Vec<D>,
-    text: &'a [u8],
-    source: S,
+    script: Script<&'a [u8], S>,
     writer: &mut W,
 ) -> Result<(Desk, Seat), RunFault<'a>>
 where
@@ -120,20 +130,23 @@ where
     S: Source + Drop,
     W: Sink,
     requires { (1 ≤ length gates.items) × (length gates.items ≤ 64) }
-    ensures ok { IfOk result (λ ended. WritesScriptTo (S.file source) text.now options.entry.hex
-        ended.1 (W.contents writer.old) (W.contents writer.new)) }
+    ensures ok { IfOk result (λ ended. WritesScriptTo (S.file script.entry.files)
+        script.entry.text.now options.entry.hex ended.1
+        (W.contents writer.old) (W.contents writer.new)) }
     ensures seats { IfOk result (λ ended. (ended.0.seats ≡ 1) × (ended.1.number ≡ 1)) }
     // The desk has the room that is asked for, and as many workers as there are gates.
     ensures room { IfOk result (λ ended. ended.0.room ≡ options.entry.cache) }
     ensures workers { IfOk result (λ ended. ended.0.workers ≡ length gates.items) }
     ensures stops { IfErr result (λ fault. StopsText
-        (S.file source) text.now options.entry.hex fault
+        (S.file script.entry.files) script.entry.text.now options.entry.hex fault
         (W.refuses writer.new) (W.contents writer.old) (W.contents writer.new)) }
 {
-    let commands = read_seat_script(alloc, text)?;
+    let commands = read_seat_script(alloc, script.text)?;
     let (desk, seat) = open(alloc, options.cache, gates.len())?;
-    let hex = options.hex;
-    let ran = run_beside(rt, alloc, desk, gates, seat, commands, hex, source, writer);
+    let (files, hex) = (script.files, options.hex);
+    let interpreter = Interpreter { seat, files, hex };
+    let pool = Pool { desk, gates };
+    let ran = run_beside(rt, alloc, pool, interpreter, commands, writer);
     match ran.result {
         Ok(()) => Ok((ran.desk, ran.seat)),
         Err(fault) => Err(fault),

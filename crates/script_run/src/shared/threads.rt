@@ -5,7 +5,7 @@ ghost use Rattle.script_run.specs.SharedRunning.{WritesRun};
 ghost use Rattle.script_run.specs.SharedStops.{StopsRun};
 
 use crate::RunFault;
-use crate::shared::commands::run_commands;
+use crate::shared::commands::{Interpreter, run_commands};
 use console_io::{Sink, Source};
 use decode_pool::{Desk, Gate, Seat, worker};
 use edit_script::SeatCommand;
@@ -13,6 +13,13 @@ use std::alloc::Global;
 use std::sync::Wait;
 use std::thread;
 use std::thread::{Scope, Threads};
+
+/// A desk, and what the workers decode by: each has a gate.
+#[derive(Drop)]
+pub(crate) struct Pool<D> {
+    pub(crate) desk: Desk,
+    pub(crate) gates: Vec<D>,
+}
 
 /// How a run went, with the desk and its seat.
 #[derive(Drop)]
@@ -28,12 +35,9 @@ pub(crate) struct Ran<'a> {
 pub(crate) fn run_beside<'a, R, D, S, W>(
     rt: &'a R,
     alloc: Global,
-    desk: Desk,
-    gates: Vec<D>,
-    seat: Seat,
+    pool: Pool<D>,
+    interpreter: Interpreter<S>,
     commands: Vec<SeatCommand<'a>>,
-    hex: bool,
-    source: S,
     writer: &mut W,
 ) -> Ran<'a>
 where
@@ -41,16 +45,17 @@ where
     D: Gate + Send + Drop,
     S: Source + Drop,
     W: Sink,
-    ensures seats { result.desk.seats ≡ desk.seats }
-    ensures room { result.desk.room ≡ desk.room }
-    ensures workers { result.desk.workers ≡ desk.workers }
+    ensures seats { result.desk.seats ≡ pool.desk.seats }
+    ensures room { result.desk.room ≡ pool.desk.room }
+    ensures workers { result.desk.workers ≡ pool.desk.workers }
     ensures ok { OnOk result.result
-        (WritesRun (S.file source) hex seat commands.entry.items result.seat
-        (W.contents writer.old) (W.contents writer.new)) }
+        (WritesRun (S.file interpreter.files) interpreter.hex interpreter.seat
+        commands.entry.items result.seat (W.contents writer.old) (W.contents writer.new)) }
     ensures stops { IfErr result.result (λ fault. StopsRun
-        (S.file source) hex seat commands.entry.items fault
+        (S.file interpreter.files) interpreter.hex interpreter.seat commands.entry.items fault
         (W.refuses writer.new) (W.contents writer.old) (W.contents writer.new)) }
 {
+    let Pool { desk, gates } = pool;
     let shared = &desk;
     // The writer is handed back, as nothing is known of what a closure wrote that has it lent.
     let (result, seat, _writer) = thread::scope(
@@ -58,62 +63,25 @@ where
         rt,
         move |scope| -> (Result<(), RunFault>, Seat, &mut W)
             ensures ok { OnOk result.0
-                (WritesRun (S.file source) hex seat commands.entry.items result.1
+                (WritesRun (S.file interpreter.files) interpreter.hex interpreter.seat
+                commands.entry.items result.1
                 (W.contents writer.entry.now) (W.contents result.2.now)) }
             ensures stops { IfErr result.0 (λ fault. StopsRun
-                (S.file source) hex seat commands.entry.items fault
+                (S.file interpreter.files) interpreter.hex interpreter.seat
+                commands.entry.items fault
                 (W.refuses result.2.now) (W.contents writer.entry.now) (W.contents result.2.now)) }
             ensures lent { writer.entry.ghost_name ≡ result.2.ghost_name }
         {
-            let (mut seat, mut source) = (seat, source);
-            let result = run_among(
-                scope,
-                rt,
-                alloc,
-                shared,
-                gates,
-                &mut seat,
-                commands,
-                hex,
-                &mut source,
-                writer,
-            );
+            let mut interpreter = interpreter;
+            let result = match start_all(scope, rt, alloc, shared, gates) {
+                true => run_commands(rt, alloc, shared, commands, &mut interpreter, writer),
+                false => Err(RunFault::Memory),
+            };
             shared.close(rt);
-            (result, seat, writer)
+            (result, interpreter.seat, writer)
         },
     );
     Ran { result, desk, seat }
-}
-
-/// Starts the workers, and runs the commands where all of them could be started.
-fn run_among<'a, 's, E, R, D, S, W>(
-    scope: &Scope<'s, E>,
-    rt: &'s R,
-    alloc: Global,
-    desk: &'s Desk,
-    gates: Vec<D>,
-    seat: &mut Seat,
-    commands: Vec<SeatCommand<'a>>,
-    hex: bool,
-    source: &mut S,
-    writer: &mut W,
-) -> Result<(), RunFault<'a>>
-where
-    R: Threads + Wait + Sync,
-    D: Gate + Send + Drop + 's,
-    S: Source,
-    W: Sink,
-    ensures ok { OnOk result
-        (WritesRun (S.file source.old) hex seat.old commands.entry.items seat.new
-        (W.contents writer.old) (W.contents writer.new)) }
-    ensures stops { IfErr result (λ fault. StopsRun
-        (S.file source.old) hex seat.old commands.entry.items fault
-        (W.refuses writer.new) (W.contents writer.old) (W.contents writer.new)) }
-{
-    if !start_all(scope, rt, alloc, desk, gates) {
-        return Err(RunFault::Memory);
-    }
-    run_commands(rt, alloc, desk, seat, commands, hex, source, writer)
 }
 
 /// Starts a worker for each gate; whether all of them could be started.

@@ -1,6 +1,6 @@
 //! Scripts that are audited: one line at the end.
 
-use super::{Files, OPTIONS, Row, is_as};
+use super::{OPTIONS, Row, console, is_as, script_of};
 use console_io::Status;
 use script_run::shared::audit_with_workers;
 use std::process::Abort;
@@ -67,18 +67,9 @@ const ROWS: [Row; 8] = [
 
 /// Whether the audit of a script ends as its row says, by two workers.
 fn ends_so<R: Abort + AllocGlobal + Threads + Wait + Sync>(rt: &R, row: &Row) -> bool {
-    let (mut output, mut errors) = (Vec::new(rt.alloc()), Vec::new(rt.alloc()));
-    let ended = audit_with_workers(
-        rt,
-        rt.alloc(),
-        OPTIONS,
-        2,
-        &mut row.script.as_bytes(),
-        Files,
-        &mut output,
-        &mut errors,
-    );
-    is_as(row, ended.status, output.as_slice(), errors.as_slice())
+    let (script, mut console) = (script_of(row.script), console(rt.alloc()));
+    let ended = audit_with_workers(rt, rt.alloc(), OPTIONS, 2, script, &mut console);
+    is_as(row, ended.status, &console)
 }
 
 #[test]

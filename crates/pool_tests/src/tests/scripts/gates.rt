@@ -3,7 +3,7 @@
 
 ghost use Rattle.std.specs.Prelude.{◌≡◌, IfOk, length};
 
-use super::{Files, OPTIONS, Row, is_as};
+use super::{OPTIONS, Row, console, is_as, script_of};
 use console_io::Status;
 use decode_pool::Gate;
 use script_run::shared::{audit_with, script_with};
@@ -56,18 +56,10 @@ fn runs_so<R: Abort + AllocGlobal + Threads + Wait + Sync>(
     rt: &R,
     row: &Row,
 ) -> Result<bool, AllocError> {
-    let (mut output, mut errors) = (Vec::new(rt.alloc()), Vec::new(rt.alloc()));
-    let ended = script_with(
-        rt,
-        rt.alloc(),
-        OPTIONS,
-        gates(rt.alloc())?,
-        &mut row.script.as_bytes(),
-        Files,
-        &mut output,
-        &mut errors,
-    );
-    Ok(is_as(row, ended.status, output.as_slice(), errors.as_slice()))
+    let (script, mut console) = (script_of(row.script), console(rt.alloc()));
+    let gates = gates(rt.alloc())?;
+    let ended = script_with(rt, rt.alloc(), OPTIONS, gates, script, &mut console);
+    Ok(is_as(row, ended.status, &console))
 }
 
 /// Whether the audit does.
@@ -75,18 +67,10 @@ fn audits_so<R: Abort + AllocGlobal + Threads + Wait + Sync>(
     rt: &R,
     row: &Row,
 ) -> Result<bool, AllocError> {
-    let (mut output, mut errors) = (Vec::new(rt.alloc()), Vec::new(rt.alloc()));
-    let ended = audit_with(
-        rt,
-        rt.alloc(),
-        OPTIONS,
-        gates(rt.alloc())?,
-        &mut row.script.as_bytes(),
-        Files,
-        &mut output,
-        &mut errors,
-    );
-    Ok(is_as(row, ended.status, output.as_slice(), errors.as_slice()))
+    let (script, mut console) = (script_of(row.script), console(rt.alloc()));
+    let gates = gates(rt.alloc())?;
+    let ended = audit_with(rt, rt.alloc(), OPTIONS, gates, script, &mut console);
+    Ok(is_as(row, ended.status, &console))
 }
 
 #[test]

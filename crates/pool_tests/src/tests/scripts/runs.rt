@@ -1,6 +1,6 @@
 //! Scripts that a seat runs.
 
-use super::{Files, OPTIONS, REPAIRED, Row, is_as};
+use super::{OPTIONS, REPAIRED, Row, console, is_as, script_of};
 use console_io::Status;
 use script_run::Options;
 use script_run::shared::script_with_workers;
@@ -89,18 +89,9 @@ fn ends_so<R: Abort + AllocGlobal + Threads + Wait + Sync>(
     options: Options<'static>,
     row: &Row,
 ) -> bool {
-    let (mut output, mut errors) = (Vec::new(rt.alloc()), Vec::new(rt.alloc()));
-    let ended = script_with_workers(
-        rt,
-        rt.alloc(),
-        options,
-        2,
-        &mut row.script.as_bytes(),
-        Files,
-        &mut output,
-        &mut errors,
-    );
-    is_as(row, ended.status, output.as_slice(), errors.as_slice())
+    let (script, mut console) = (script_of(row.script), console(rt.alloc()));
+    let ended = script_with_workers(rt, rt.alloc(), options, 2, script, &mut console);
+    is_as(row, ended.status, &console)
 }
 
 #[test]

@@ -1,8 +1,8 @@
 //! Writers that take some bytes and then no more: what is written is the front that they take, and
 //! the run ends.
 
-use super::{Files, OPTIONS, REPAIRED, Row};
-use console_io::{Sink, Status};
+use super::{OPTIONS, REPAIRED, Row, script_of};
+use console_io::{Console, Sink, Status};
 use script_run::shared::{audit_with_workers, script_with_workers};
 use std::alloc::{AllocError, Global};
 use std::io;
@@ -50,6 +50,20 @@ impl Sink for ShortWriter {
     }
 }
 
+/// A console whose output has this room.
+fn short(alloc: Global, room: usize) -> Console<ShortWriter, Vec<u8>> {
+    Console {
+        output: ShortWriter::new(alloc, room),
+        errors: Vec::new(alloc),
+    }
+}
+
+/// Whether just that front of the text was written, and nothing was told.
+fn has_front(console: &Console<ShortWriter, Vec<u8>>, text: &str, room: usize) -> bool {
+    let got = console.output.got.as_slice();
+    console.errors.is_empty() && got.len() == room && text.as_bytes().starts_with(got)
+}
+
 /// Whether a writer of this room gets just that front of the lines of a script, and the run fails
 /// by it without a word.
 fn writes_front<R: Abort + AllocGlobal + Threads + Wait + Sync>(
@@ -57,22 +71,9 @@ fn writes_front<R: Abort + AllocGlobal + Threads + Wait + Sync>(
     row: &Row,
     room: usize,
 ) -> bool {
-    let mut output = ShortWriter::new(rt.alloc(), room);
-    let mut errors = Vec::new(rt.alloc());
-    let ended = script_with_workers(
-        rt,
-        rt.alloc(),
-        OPTIONS,
-        2,
-        &mut row.script.as_bytes(),
-        Files,
-        &mut output,
-        &mut errors,
-    );
-    ended.status == Status::Failure
-        && errors.is_empty()
-        && output.got.len() == room
-        && row.lines.as_bytes().starts_with(output.got.as_slice())
+    let (script, mut console) = (script_of(row.script), short(rt.alloc(), room));
+    let ended = script_with_workers(rt, rt.alloc(), OPTIONS, 2, script, &mut console);
+    ended.status == Status::Failure && has_front(&console, row.lines, room)
 }
 
 /// The same of the line of its audit.
@@ -82,22 +83,9 @@ fn audits_to_front<R: Abort + AllocGlobal + Threads + Wait + Sync>(
     line: &str,
     room: usize,
 ) -> bool {
-    let mut output = ShortWriter::new(rt.alloc(), room);
-    let mut errors = Vec::new(rt.alloc());
-    let ended = audit_with_workers(
-        rt,
-        rt.alloc(),
-        OPTIONS,
-        2,
-        &mut script.as_bytes(),
-        Files,
-        &mut output,
-        &mut errors,
-    );
-    ended.status == Status::Failure
-        && errors.is_empty()
-        && output.got.len() == room
-        && line.as_bytes().starts_with(output.got.as_slice())
+    let (script, mut console) = (script_of(script), short(rt.alloc(), room));
+    let ended = audit_with_workers(rt, rt.alloc(), OPTIONS, 2, script, &mut console);
+    ended.status == Status::Failure && has_front(&console, line, room)
 }
 
 #[test]

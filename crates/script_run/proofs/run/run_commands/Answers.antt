@@ -10,35 +10,38 @@ use Rattle.script_run.proofs.run.run_commands.Goals as goal
 pub loop-command-preserved : goal.loop-command-preserved
 loop-command-preserved g c =
     let before = c.loop-command in
-    let files = g.S.Source.file c.args.source.now in
+    let files = g.S.Source.file c.args.interpreter.now.files in
+    let hex = c.args.interpreter.now.hex in
     let command = c.in-Some.command in
     let lines = string_bytes c.in_ok-lines.lines in
-    let later = c.run_command.new.runner in
+    let later = c.run_command.new.interpreter.runner in
     let ran = before.invariant.ran in
     let kept = before.invariant.kept in
-    let answers = Answers-same g.J.Encoder.says files c.args.hex (g.S.Source.file before.source) kept before.runner command lines later
-    c.in_ok-lines.ensures.ok in
+    let answers = Answers-same g.J.Encoder.says files hex (g.S.Source.file before.interpreter.files) kept before.interpreter.runner command lines later
+    (rw before.invariant.hex at c.in_ok-lines.ensures.ok) in
     let written = rw c.as_bytes.ensures.value at c.in_ok-write_bytes.ensures.ok in
     let next = into_iter_items c.next.new.self in
     record {
-      ran = written-push (Answers g.J.Encoder.says files c.args.hex) c.args.runner.now before.yielded before.runner _ _ _ ran command lines later answers
+      ran = written-push (Answers g.J.Encoder.says files hex) c.args.interpreter.now.runner before.yielded before.interpreter.runner _ _ _ ran command lines later answers
           written;
       kept = λ name. c.in_ok-lines.ensures.kept name ∙ kept name;
+      hex = c.in_ok-lines.ensures.hex ∙ before.invariant.hex;
       left = rw (append_assoc before.yielded (command ∷ []) next, ← c.in-Some.ensures.steps.0) before.invariant.left;
     }
 
 pub returns-in_err-write_bytes-clause-stops : goal.returns-in_err-write_bytes-clause-stops
 returns-in_err-write_bytes-clause-stops g c =
     let before = c.loop-command in
-    let files = g.S.Source.file c.args.source.now in
+    let files = g.S.Source.file c.args.interpreter.now.files in
+    let hex = c.args.interpreter.now.hex in
     let command = c.in-Some.command in
     let lines = string_bytes c.in_ok-lines.lines in
-    let later = c.run_command.new.runner in
-    let answers = Answers-same g.J.Encoder.says files c.args.hex (g.S.Source.file before.source) before.invariant.kept before.runner command lines
-    later c.in_ok-lines.ensures.ok in
+    let later = c.run_command.new.interpreter.runner in
+    let answers = Answers-same g.J.Encoder.says files hex (g.S.Source.file before.interpreter.files) before.invariant.kept before.interpreter.runner command lines
+    later (rw before.invariant.hex at c.in_ok-lines.ensures.ok) in
     let got = rw c.as_bytes.ensures.value at c.in_err-write_bytes.ensures.unwritten in
     let left = rw c.in-Some.ensures.steps.0 at before.invariant.left in
     err-all c.from_residual-in_err-write_bytes.result _ c.from_residual-in_err-write_bytes.ensures.1
-    (λ fault is. stops-within (Answers g.J.Encoder.says files c.args.hex) IsCommandFault c.args.runner.now before.yielded before.runner _ _ before.invariant.ran _ _ command
+    (λ fault is. stops-within (Answers g.J.Encoder.says files hex) IsCommandFault c.args.interpreter.now.runner before.yielded before.interpreter.runner _ _ before.invariant.ran _ _ command
     _ left lines later answers got fault (is ∙ ap fault_of_print c.in_err-write_bytes.ensures.fault) _
     c.in_err-write_bytes.ensures.refused)

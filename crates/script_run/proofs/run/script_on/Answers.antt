@@ -4,6 +4,6 @@ use Rattle.script_run.proofs.run.script_on.Goals as goal
 
 pub returns-clause-stops : goal.returns-clause-stops
 returns-clause-stops g c failure =
-    let stops = IfSome_then (g.R.Read.remaining c.args.reader.now) c.in-Ok.ensures
+    let stops = IfSome_then (g.R.Read.remaining c.args.script.text) c.in-Ok.ensures
     (λ bytes same. inr (rw (c.as_slice.ensures.value ∙ same) at c.in-Err-run_text.ensures.stops)) in
     (c.in-Err-run_text.fault, stops, rw c.failed-in-Err-run_text.ensures c.say_run_fault-in-Err-run_text.ensures)

@@ -8,6 +8,6 @@ pub returns-in_err-verdict-clause-stops : goal.returns-in_err-verdict-clause-sto
 returns-in_err-verdict-clause-stops g c =
     err-all c.from_residual.result _ c.from_residual.ensures.1
     (λ fault is. inl (
-      subst (StopsAudit (g.S.Source.file c.args.source) c.args.text.now) (sym is) c.in_err-verdict.ensures.stops,
+      subst (StopsAudit (g.S.Source.file c.args.script.files) c.args.script.text.now) (sym is) c.in_err-verdict.ensures.stops,
       Keeps-refl (g.W.Write.contents c.args.writer.now),
     ))

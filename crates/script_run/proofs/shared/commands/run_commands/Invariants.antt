@@ -5,8 +5,9 @@ use Rattle.script_run.proofs.shared.commands.run_commands.Given as goal
 
 abbrev pub invariant-loop-command : goal.invariant-loop-command
 invariant-loop-command g l = record {
-  ran : WritesRun (g.S.Source.file l.fn.source) l.hex l.fn.seat l.yielded l.seat
+  ran : WritesRun (g.S.Source.file l.fn.interpreter.files) l.fn.interpreter.hex l.fn.interpreter.seat l.yielded l.interpreter.seat
       (g.W.Write.contents l.fn.writer) (g.W.Write.contents l.writer);
-  kept : (name : List ℕ) → g.S.Source.file l.source name ≡ g.S.Source.file l.fn.source name;
+  kept : (name : List ℕ) → g.S.Source.file l.interpreter.files name ≡ g.S.Source.file l.fn.interpreter.files name;
+  hex : l.interpreter.hex ≡ l.fn.interpreter.hex;
   left : l.fn.commands.items ≡ l.yielded ++ into_iter_items l.command-iterator;
 }

@@ -19,7 +19,7 @@ pub returns-in-Ok-clause-seats : goal.returns-in-Ok-clause-seats
 returns-in-Ok-clause-seats g c =
     let ran = rw c.in-Ok.is at c.run_beside-ran.ensures.ok in (
       c.run_beside-ran.ensures.seats ∙ c.in_ok-desk.ensures.seats,
-      run-keeps (g.S.Source.file c.args.source) c.args.options.hex c.in_ok-desk.seat c.in_ok-commands.commands.items ran.0
+      run-keeps (g.S.Source.file c.args.script.files) c.args.options.hex c.in_ok-desk.seat c.in_ok-commands.commands.items ran.0
           c.run_beside-ran.result.seat ran.1 ∙ c.in_ok-desk.ensures.new.0,
     )
 

@@ -5,9 +5,9 @@ use super::scripts::TestFiles;
 use super::{P1, SETS};
 use Status::{Failure, Success};
 use cli::run_on;
-use console_io::Status;
+use console_io::{Console, Status};
 use plan_stream::plan_on;
-use script_run::{Options, script_on};
+use script_run::{Options, Script, script_on};
 use std::process::Abort;
 use std::sync::Wait;
 use std::thread::Threads;
@@ -116,29 +116,27 @@ fn is_run_or_out_of_memory(status: Status, output: &[u8], errors: &[u8]) -> bool
 /// Whether a script is run, or memory ran out.
 fn runs_or_wants_memory(rt: &(impl Abort + AllocGlobal + Threads + Sync)) -> bool {
     let (mut output, mut errors) = ([0u8; 512], [0u8; 64]);
-    let (mut writer, mut teller) = (output.as_mut_slice(), errors.as_mut_slice());
-    let script = b"load p\ninsert after 1 00 00 01 41 9A 43\ndelete 1\nunit 2\n";
+    let mut console = Console {
+        output: output.as_mut_slice(),
+        errors: errors.as_mut_slice(),
+    };
+    let text = b"load p\ninsert after 1 00 00 01 41 9A 43\ndelete 1\nunit 2\n";
     let options = Options {
         name: "-",
         cache: 64,
         hex: true,
     };
     let files: [(&str, &[u8]); 1] = [("p", P1.as_slice())];
-    let mut source = TestFiles {
+    let files = TestFiles {
         files: files.as_slice(),
         asked: 0,
     };
-    let ended = script_on(
-        rt,
-        rt.alloc(),
-        &Json,
-        options,
-        &mut script.as_slice(),
-        &mut source,
-        &mut writer,
-        &mut teller,
-    );
-    let (left, quiet) = (writer.len(), teller.len());
+    let script = Script {
+        text: text.as_slice(),
+        files,
+    };
+    let ended = script_on(rt, rt.alloc(), &Json, options, script, &mut console);
+    let (left, quiet) = (console.output.len(), console.errors.len());
     is_run_or_out_of_memory(ended.status, front(&output, left), front(&errors, quiet))
 }
 

@@ -1,6 +1,6 @@
 -- What the program does with the words of a command line, on files and a standard input
 -- (docs/OUTPUT.md).
-use Rattle.std.specs.Prelude.{◌≡◌, ◌⊎◌, ◌++◌, ℕ, Bool, List, [], Option, None, Some, IfSome, Result, ⊤}
+use Rattle.std.specs.Prelude.{◌≡◌, ◌≢◌, ◌⊎◌, ◌++◌, ℕ, Bool, List, [], Option, None, Some, IfSome, Result, ⊤}
 use Rattle.std.specs.Io.KnownBytes.{Appends, Keeps}
 use Rattle.clap.specs.Words.{Text}
 use Rattle.console_io.specs.Chunks.{AppendsFront}
@@ -8,6 +8,8 @@ use Rattle.console_io.specs.Inputs.{Files, text_named}
 use Rattle.console_io.specs.Messages.{Tells, input_fault_text, out_of_memory}
 use Rattle.console_io.specs.declared.chunks.PrintFault.{PrintFault}
 use Rattle.console_io.specs.declared.input.InputFault.{InputFault}
+use Rattle.console_io.specs.declared.status.Ended.{Ended}
+use Rattle.console_io.specs.declared.status.Status.TheVariants.{Failure, Success, Usage}
 use Rattle.draw_run.specs.EditedDrawings.{EndsBy as EndsEdited, WritesEdited, edits_fault_text}
 use Rattle.draw_run.specs.declared.fault.EditsFault.{EditsFault}
 use Rattle.draw_run.specs.Drawings.{EndsBy as EndsDrawing, WritesDrawing}
@@ -116,6 +118,13 @@ FailsAt files standard (serve workers room None) told refused old new mute had h
 FailsAt files standard (serve workers room (Some name)) told refused old new mute had has =
     ((end : ServeEnd) × Tells told mute had has (end_text end))
     ⊎ ((fault : JournalFault) × Keeps old new × Tells told mute had has (journal_fault_text name fault))
+
+-- what is asked for was done, or ended by a fault, as the status says; it is never a wrong command line
+pub record Ends (files : Files) (standard : Option (List ℕ)) (wanted : Wanted) (ended : Ended)
+    (refused : Type 0) (old new : Option (List ℕ)) (mute : Type 0) (had has : Option (List ℕ)) : Type 0 where
+  pub right : ended.status ≡ Success → IsDone files standard wanted ended.told old new mute had has
+  pub fails : ended.status ≡ Failure → FailsAt files standard wanted ended.told refused old new mute had has
+  pub usage : ended.status ≢ Usage
 
 -- memory ran out for the words or for an answer to them: that was told, and nothing printed
 abbrev pub WantsMemory : {T : Type 0} → Result T PrintFault → Option (List ℕ) → Option (List ℕ)

@@ -4,7 +4,7 @@ ghost use Rattle.std.specs.Prelude.{◌≡◌, ◌⊎◌, IfErr, IfOk, IfSome, O
 ghost use Rattle.console_io.specs.Inputs.{text_named};
 
 use bytes::Bytes;
-use console_io::{Directory, InputFault, open_input, whole_input};
+use console_io::{Directory, InputFault, Inputs, whole_input};
 use std::alloc::Global;
 use std::io::Read;
 
@@ -15,37 +15,45 @@ pub(crate) struct UnreadText<'a> {
     pub(crate) fault: InputFault,
 }
 
-/// The texts that two names stand for, each the standard input for `-`, which is read once where
+/// The names of a stream and of a script.
+#[derive(Clone, Copy, Debug)]
+pub(crate) struct Names<'a> {
+    pub(crate) stream: &'a str,
+    pub(crate) script: &'a str,
+}
+
+/// The texts that the names stand for, each the standard input for `-`, which is read once where
 /// both are.
 pub(crate) fn named_texts<'a, D: Directory, I: Read + Drop>(
     alloc: Global,
-    directory: &D,
-    standard: I,
-    first: &'a str,
-    second: &'a str,
+    inputs: Inputs<'_, D, I>,
+    names: Names<'a>,
 ) -> Result<(Bytes, Bytes), UnreadText<'a>>
-    ensures first { IfOk result (λ texts.
-        IfSome (text_named (D.bytes directory.now) (I.remaining standard) first.now)
+    ensures stream { IfOk result (λ texts. IfSome (text_named
+        (D.bytes inputs.entry.directory.now) (I.remaining inputs.entry.standard)
+        names.entry.stream.now)
         (λ text. texts.0 ≡ text)) }
-    ensures second { IfOk result (λ texts.
-        IfSome (text_named (D.bytes directory.now) (I.remaining standard) second.now)
+    ensures script { IfOk result (λ texts. IfSome (text_named
+        (D.bytes inputs.entry.directory.now) (I.remaining inputs.entry.standard)
+        names.entry.script.now)
         (λ text. texts.1 ≡ text)) }
-    ensures unread { IfErr result (λ unread. (unread.name ≡ first.entry)
-        ⊎ (unread.name ≡ second.entry)) }
+    ensures unread { IfErr result (λ unread. (unread.name ≡ names.entry.stream)
+        ⊎ (unread.name ≡ names.entry.script)) }
 {
-    match (first == "-", second == "-") {
+    let (directory, Names { stream, script }) = (inputs.directory, names);
+    match (stream == "-", script == "-") {
         (true, true) => {
-            let text = named(first, input_text(alloc, standard))?;
-            let same = named(second, share(&text))?;
+            let text = named(stream, input_text(alloc, inputs.standard))?;
+            let same = named(script, share(&text))?;
             Ok((text, same))
         }
         (false, true) => Ok((
-            named(first, file_text(alloc, directory, first))?,
-            named(second, input_text(alloc, standard))?,
+            named(stream, file_text(alloc, directory, stream))?,
+            named(script, input_text(alloc, inputs.standard))?,
         )),
         (_, false) => Ok((
-            named(first, opened_text(alloc, directory, standard, first))?,
-            named(second, file_text(alloc, directory, second))?,
+            named(stream, opened_text(alloc, inputs, stream))?,
+            named(script, file_text(alloc, directory, script))?,
         )),
     }
 }
@@ -73,15 +81,14 @@ fn file_text<D: Directory>(alloc: Global, directory: &D, name: &str) -> Result<B
 /// The text that the name stands for.
 fn opened_text<D: Directory, I: Read + Drop>(
     alloc: Global,
-    directory: &D,
-    standard: I,
+    inputs: Inputs<'_, D, I>,
     name: &str,
 ) -> Result<Bytes, InputFault>
-    ensures { IfOk result (λ text.
-        IfSome (text_named (D.bytes directory.now) (I.remaining standard) name.now)
+    ensures { IfOk result (λ text. IfSome (text_named
+        (D.bytes inputs.entry.directory.now) (I.remaining inputs.entry.standard) name.now)
         (λ bytes. text ≡ bytes)) }
 {
-    let input = open_input(directory, standard, name)?;
+    let input = inputs.open(name)?;
     input_text(alloc, input)
 }
 

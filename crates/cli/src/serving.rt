@@ -4,14 +4,14 @@ ghost use Rattle.std.specs.Prelude.{◌≡◌, ◌≢◌, option_map};
 ghost use Rattle.std.specs.Io.KnownBytes.{Keeps};
 ghost use Rattle.console_io.specs.Messages.{Tells};
 ghost use Rattle.cli.specs.CommandLine.{serve};
-ghost use Rattle.cli.specs.Programs.{FailsAt, IsDone};
+ghost use Rattle.cli.specs.Programs.{Ends};
 ghost use Rattle.serve_run.specs.Ends.{end_text};
 
 use crate::{Serving, Workers};
 use console_io::file_saving::Saving;
-use console_io::{Directory, Ended, Files, Sink, Status};
+use console_io::{Console, Directory, Ended, Files, Inputs, Sink, Status};
 use failure_reasons::Explain;
-use serve_run::{ServeEnd, say_end, say_journal_fault, serve_alone, serve_with_workers};
+use serve_run::{ServeEnd, Service, say_end, say_journal_fault, serve_alone, serve_with_workers};
 use session_journal::{Journals, Step};
 use std::alloc::Global;
 use std::io::Read;
@@ -25,40 +25,37 @@ pub(crate) fn serve_on<D, I: Read + Drop, W: Sink + Send, E: Sink>(
     threads: &(impl Threads + Wait + Sync),
     alloc: Global,
     serving: Serving<'_>,
-    directory: &D,
-    standard: I,
-    output: &mut W,
-    errors: &mut E,
+    inputs: Inputs<'_, D, I>,
+    console: &mut Console<W, E>,
 ) -> Ended
 where
     D: Directory + Explain + Saving + Journals,
-    ensures right { result.status ≡ Status.Success
-        → IsDone (D.bytes directory.now) (I.remaining standard)
+    ensures { Ends (D.bytes inputs.entry.directory.now) (I.remaining inputs.entry.standard)
         (serve (option_map (λ workers. workers.count) serving.entry.workers)
-        serving.entry.cache (option_map (λ name. name.now) serving.entry.journal)) result.told
-        (W.contents output.old) (W.contents output.new)
-        (E.refuses errors.new) (E.contents errors.old) (E.contents errors.new) }
-    ensures fails { result.status ≡ Status.Failure
-        → FailsAt (D.bytes directory.now) (I.remaining standard)
-        (serve (option_map (λ workers. workers.count) serving.entry.workers)
-        serving.entry.cache (option_map (λ name. name.now) serving.entry.journal)) result.told
-        (W.refuses output.new) (W.contents output.old) (W.contents output.new)
-        (E.refuses errors.new) (E.contents errors.old) (E.contents errors.new) }
-    ensures usage { result.status ≢ Status.Usage }
+        serving.entry.cache (option_map (λ name. name.now) serving.entry.journal)) result
+        (W.refuses console.new.output)
+        (W.contents console.old.output) (W.contents console.new.output)
+        (E.refuses console.new.errors)
+        (E.contents console.old.errors) (E.contents console.new.errors) }
 {
     let Some(name) = serving.journal else {
-        let end = serve_from(threads, alloc, serving, None, directory, standard, output);
-        return ended_by(end, errors);
+        let end = serve_from(threads, alloc, serving, None, inputs, &mut console.output);
+        return ended_by(end, &mut console.errors);
     };
-    match directory.open_journal(alloc, name) {
+    match inputs.directory.open_journal(alloc, name) {
         Ok(opened) => {
             let journal = Some(opened);
             let end = serve_from(
-                threads, alloc, serving, journal, directory, standard, output,
+                threads,
+                alloc,
+                serving,
+                journal,
+                inputs,
+                &mut console.output,
             );
-            ended_by(end, errors)
+            ended_by(end, &mut console.errors)
         }
-        Err(fault) => Ended::failed(say_journal_fault(fault, name, errors)),
+        Err(fault) => Ended::failed(say_journal_fault(fault, name, &mut console.errors)),
     }
 }
 
@@ -68,16 +65,20 @@ fn serve_from<D: Directory + Explain + Saving + Journals, I: Read + Drop, W: Sin
     alloc: Global,
     serving: Serving<'_>,
     journal: Option<(D::Journal, Vec<Step>)>,
-    directory: &D,
-    standard: I,
+    inputs: Inputs<'_, D, I>,
     output: &mut W,
 ) -> ServeEnd {
-    let (cache, files) = (serving.cache, Files { directory });
+    let service = Service {
+        cache: serving.cache,
+        journal,
+        input: inputs.standard,
+        files: Files {
+            directory: inputs.directory,
+        },
+    };
     match serving.workers {
-        None => serve_alone(threads, alloc, cache, journal, standard, files, output),
-        Some(Workers { count }) => serve_with_workers(
-            threads, alloc, cache, count, journal, standard, files, output,
-        ),
+        None => serve_alone(threads, alloc, service, output),
+        Some(Workers { count }) => serve_with_workers(threads, alloc, count, service, output),
     }
 }
 

@@ -1,8 +1,6 @@
 use Rattle.cli.proofs.Unopened.{draw-unopened}
 use Rattle.cli.proofs.running.draw_named.Goals as goal
 
-pub returns-in-Err-clause-fails : goal.returns-in-Err-clause-fails
-returns-in-Err-clause-fails g c failure =
-    draw-unopened (g.D.Directory.bytes c.args.directory.now) (g.I.Read.remaining c.args.standard) c.failed.result.told _ _
-    (g.W.Write.contents c.args.output.now) _ _ c.args.name.now c.args.choice.from c.args.choice.units c.in-Err.fault
-    (rw c.failed.ensures c.say_input_fault.ensures)
+pub returns-in-Err : goal.returns-in-Err
+returns-in-Err g c =
+    rw c.failed.ensures (draw-unopened _ _ _ _ _ _ _ _ c.args.name.now c.args.choice.from c.args.choice.units c.in-Err.fault c.say_input_fault.ensures)

@@ -11,25 +11,23 @@
 //! process's own words, files and streams.
 #![tactic(auto)]
 
-use console_io::Status;
+use console_io::{Console, Inputs, Status};
 use failure_reasons::Watched;
 use std::io::Stderr;
 use std::process::ExitCode;
 
 fn main(rt: HostRuntime) -> ExitCode {
-    let (mut output, mut errors) = (Watched::new(rt.stdout()), rt.stderr());
-    let words = cli::words(&rt);
-    let ended = cli::run(
-        &rt,
-        rt.alloc(),
-        words,
-        &rt,
-        rt.stdin(),
-        &mut output,
-        &mut errors,
-    );
-    if ended.status == Status::Failure || output.has_refusal() {
-        explain(&rt, &mut errors);
+    let inputs = Inputs {
+        directory: &rt,
+        standard: rt.stdin(),
+    };
+    let mut console = Console {
+        output: Watched::new(rt.stdout()),
+        errors: rt.stderr(),
+    };
+    let ended = cli::run(&rt, rt.alloc(), cli::words(&rt), inputs, &mut console);
+    if ended.status == Status::Failure || console.output.has_refusal() {
+        explain(&rt, &mut console.errors);
     }
     ended.status.exit_code()
 }

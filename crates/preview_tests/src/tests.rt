@@ -20,6 +20,7 @@ mod script_faults;
 mod scripts;
 mod writers;
 
+use console_io::Console;
 use std::alloc::{AllocError, Global};
 use std::io;
 use std::io::{ErrorKind, Read};
@@ -69,6 +70,14 @@ fn texts(alloc: Global, parts: &[&str]) -> Result<String, AllocError> {
         text.push_str(*part)?;
     }
     Ok(text)
+}
+
+/// A console in memory, on which nothing is written.
+fn empty_console(alloc: Global) -> Console<Vec<u8>, Vec<u8>> {
+    Console {
+        output: Vec::new(alloc),
+        errors: Vec::new(alloc),
+    }
 }
 
 /// The bytes so many times.

@@ -1,12 +1,12 @@
 //! Command lines on files and a standard input over memory: the status, and what each stream gets.
 
 use super::writers::{End, ShortWriter};
-use super::{A, LINES_OF_A, P1, row_holds};
+use super::{A, LINES_OF_A, P1, empty_console, row_holds};
 use Status::{Failure, Success, Usage};
 use bytes::Bytes;
 use cli::{run, run_on};
 use console_io::file_saving::{Saving, Unsaved};
-use console_io::{Directory, Ended, PrintFault, Status};
+use console_io::{Console, Directory, Ended, Inputs, PrintFault, Status};
 use failure_reasons::Explain;
 use session_journal::{JournalFault, Journals, SessionFile, Step};
 use std::alloc::{AllocError, Global};
@@ -106,16 +106,13 @@ pub(super) fn run_with(
     standard: &'static [u8],
 ) -> Result<Written, AllocError> {
     let all = named(rt.alloc(), words)?;
-    let (mut output, mut errors) = (Vec::new(rt.alloc()), Vec::new(rt.alloc()));
-    let ended = run_on(
-        rt,
-        rt.alloc(),
-        all.as_slice(),
-        &Folder,
+    let inputs = Inputs {
+        directory: &Folder,
         standard,
-        &mut output,
-        &mut errors,
-    );
+    };
+    let mut console = empty_console(rt.alloc());
+    let ended = run_on(rt, rt.alloc(), all.as_slice(), inputs, &mut console);
+    let Console { output, errors } = console;
     Ok(Written {
         ended,
         output,
@@ -581,19 +578,15 @@ fn run_without_words(
     status: Status,
     message: &[u8],
 ) -> bool {
-    let (mut output, mut errors) = (Vec::new(rt.alloc()), Vec::new(rt.alloc()));
     let words = Err(io::Error::from(kind));
     let standard: &[u8] = &[];
-    let ended = run(
-        rt,
-        rt.alloc(),
-        words,
-        &Folder,
+    let inputs = Inputs {
+        directory: &Folder,
         standard,
-        &mut output,
-        &mut errors,
-    );
-    ended.status == status && output.is_empty() && errors.as_slice() == message
+    };
+    let mut console = empty_console(rt.alloc());
+    let ended = run(rt, rt.alloc(), words, inputs, &mut console);
+    ended.status == status && console.output.is_empty() && console.errors.as_slice() == message
 }
 
 #[test]
@@ -611,22 +604,20 @@ fn cuts_errors(
     message: &[u8],
     room: usize,
 ) -> bool {
-    let mut output = Vec::new(rt.alloc());
-    let mut errors = ShortWriter::new(rt.alloc(), 5, room, End::Fails);
     let standard: &[u8] = b"unit 1\nunit\n";
-    let ended = run_on(
-        rt,
-        rt.alloc(),
-        words,
-        &Folder,
+    let inputs = Inputs {
+        directory: &Folder,
         standard,
-        &mut output,
-        &mut errors,
-    );
+    };
+    let mut console = Console {
+        output: Vec::new(rt.alloc()),
+        errors: ShortWriter::new(rt.alloc(), 5, room, End::Fails),
+    };
+    let ended = run_on(rt, rt.alloc(), words, inputs, &mut console);
     let told = Err(PrintFault::Unwritten);
     ended == Ended { status, told }
-        && output.is_empty()
-        && errors.got.as_slice() == message.split_at(room.min(message.len())).0
+        && console.output.is_empty()
+        && console.errors.got.as_slice() == message.split_at(room.min(message.len())).0
 }
 
 /// The words of a run that fails, and what is told of it.
@@ -657,22 +648,20 @@ fn fails_cut(
     room: usize,
     end: End,
 ) -> bool {
-    let mut output = ShortWriter::new(rt.alloc(), usize::MAX, room, end);
-    let mut errors = Vec::new(rt.alloc());
     let standard: &[u8] = &[];
-    let ended = run_on(
-        rt,
-        rt.alloc(),
-        words,
-        &Folder,
+    let inputs = Inputs {
+        directory: &Folder,
         standard,
-        &mut output,
-        &mut errors,
-    );
+    };
+    let mut console = Console {
+        output: ShortWriter::new(rt.alloc(), usize::MAX, room, end),
+        errors: Vec::new(rt.alloc()),
+    };
+    let ended = run_on(rt, rt.alloc(), words, inputs, &mut console);
     let (status, told) = (Failure, Ok(()));
     ended == Ended { status, told }
-        && errors.is_empty()
-        && output.got.as_slice() == text.split_at(room.min(text.len())).0
+        && console.errors.is_empty()
+        && console.output.got.as_slice() == text.split_at(room.min(text.len())).0
 }
 
 /// Whether the words' answer fails on each output that takes less than all of it.

@@ -1,7 +1,8 @@
 //! Streams that are planned, and streams that are refused.
 
 use super::{
-    A, FAILURES, FailingReader, LINES_OF_A, LINES_OF_P1, P1, P2, SETS, joined, row_holds, texts,
+    A, FAILURES, FailingReader, LINES_OF_A, LINES_OF_P1, P1, P2, SETS, empty_console, joined,
+    row_holds, texts,
 };
 use crate::sample::{CLOCK, CLOCK_LINES};
 use Status::{Failure, Success};
@@ -22,10 +23,9 @@ pub(super) fn is_planned(
     status: Status,
     lines: &[u8],
 ) -> bool {
-    let (mut output, mut errors) = (Vec::new(rt.alloc()), Vec::new(rt.alloc()));
-    let mut reader = text;
-    let ended = plan_on(rt.alloc(), "-", &mut reader, &mut output, &mut errors);
-    ended.status == status && output.as_slice() == lines && errors.is_empty()
+    let (mut reader, mut console) = (text, empty_console(rt.alloc()));
+    let ended = plan_on(rt.alloc(), "-", &mut reader, &mut console);
+    ended.status == status && console.output.as_slice() == lines && console.errors.is_empty()
 }
 
 /// Whether the row's stream is planned so.
@@ -102,9 +102,11 @@ fn is_told(
     mut reader: FailingReader<'_>,
     message: &str,
 ) -> bool {
-    let (mut output, mut errors) = (Vec::new(rt.alloc()), Vec::new(rt.alloc()));
-    let ended = plan_on(rt.alloc(), "-", &mut reader, &mut output, &mut errors);
-    ended.status == Failure && output.is_empty() && errors.as_slice() == message.as_bytes()
+    let mut console = empty_console(rt.alloc());
+    let ended = plan_on(rt.alloc(), "-", &mut reader, &mut console);
+    ended.status == Failure
+        && console.output.is_empty()
+        && console.errors.as_slice() == message.as_bytes()
 }
 
 #[test]

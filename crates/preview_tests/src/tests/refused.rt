@@ -1,11 +1,12 @@
 //! Runs of which any growth of memory may be refused. What they write and read is in memory that
 //! isn't.
 
+use super::command_lines::Folder;
 use super::scripts::TestFiles;
 use super::{P1, SETS};
 use Status::{Failure, Success};
 use cli::run_on;
-use console_io::{Console, Status};
+use console_io::{Console, Inputs, Status};
 use plan_stream::plan_on;
 use script_run::{Options, Script, script_on};
 use std::process::Abort;
@@ -50,9 +51,12 @@ fn plans_or_wants_memory(
     wanted: (Status, &str),
 ) -> bool {
     let (mut output, mut errors) = ([0u8; 512], [0u8; 64]);
-    let (mut writer, mut teller) = (output.as_mut_slice(), errors.as_mut_slice());
-    let ended = plan_on(rt.alloc(), "-", &mut &*text, &mut writer, &mut teller);
-    let (left, quiet) = (writer.len(), teller.len());
+    let mut console = Console {
+        output: output.as_mut_slice(),
+        errors: errors.as_mut_slice(),
+    };
+    let ended = plan_on(rt.alloc(), "-", &mut &*text, &mut console);
+    let (left, quiet) = (console.output.len(), console.errors.len());
     let (output, errors) = (front(&output, left), front(&errors, quiet));
     is_told_or_out_of_memory(ended.status, output, errors, wanted)
 }
@@ -77,18 +81,18 @@ fn refused_empty_unit(rt: HostRuntime) {
 /// Whether a command line that names no file ends so, or memory ran out.
 fn is_unread_or_wants_memory(rt: &(impl Abort + AllocGlobal + Threads + Wait + Sync)) -> bool {
     let (mut output, mut errors) = ([0u8; 512], [0u8; 64]);
-    let (mut writer, mut teller) = (output.as_mut_slice(), errors.as_mut_slice());
+    let mut console = Console {
+        output: output.as_mut_slice(),
+        errors: errors.as_mut_slice(),
+    };
     let standard: &[u8] = &[];
-    let ended = run_on(
-        rt,
-        rt.alloc(),
-        &["preview", "plan", "no/such.264"],
-        &super::command_lines::Folder,
+    let inputs = Inputs {
+        directory: &Folder,
         standard,
-        &mut writer,
-        &mut teller,
-    );
-    let (left, quiet) = (writer.len(), teller.len());
+    };
+    let words = &["preview", "plan", "no/such.264"];
+    let ended = run_on(rt, rt.alloc(), words, inputs, &mut console);
+    let (left, quiet) = (console.output.len(), console.errors.len());
     let errors = front(&errors, quiet);
     ended.status == Failure
         && left == 512
@@ -127,13 +131,12 @@ fn runs_or_wants_memory(rt: &(impl Abort + AllocGlobal + Threads + Sync)) -> boo
         hex: true,
     };
     let files: [(&str, &[u8]); 1] = [("p", P1.as_slice())];
-    let files = TestFiles {
-        files: files.as_slice(),
-        asked: 0,
-    };
     let script = Script {
         text: text.as_slice(),
-        files,
+        files: TestFiles {
+            files: files.as_slice(),
+            asked: 0,
+        },
     };
     let ended = script_on(rt, rt.alloc(), &Json, options, script, &mut console);
     let (left, quiet) = (console.output.len(), console.errors.len());

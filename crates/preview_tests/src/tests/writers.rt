@@ -3,7 +3,7 @@
 ghost use Rattle.std.specs.Prelude.{IsTrue};
 
 use super::{A, LINES_OF_A, LINES_OF_P1, P1, joined, row_holds};
-use console_io::{Ended, Sink, Status};
+use console_io::{Console, Ended, Sink, Status};
 use plan_stream::plan_on;
 use std::alloc::Global;
 use std::io;
@@ -78,29 +78,23 @@ impl Sink for ShortWriter {
     }
 }
 
-/// The plan of A and P1 on such a writer: how it ended, where nothing is told.
-fn plan_to(
-    rt: &(impl Abort + AllocGlobal + Threads + Sync),
-    text: &[u8],
-    writer: &mut ShortWriter,
-) -> Option<Ended> {
-    let mut errors = Vec::new(rt.alloc());
-    let mut reader = text;
-    let ended = plan_on(rt.alloc(), "-", &mut reader, writer, &mut errors);
-    errors.is_empty().then_some(ended)
-}
-
-/// Whether a writer of this room that ends so gets just this, and the plan ends so.
+/// Whether a writer of this room that ends so gets just this of the plan of a text, which ends so,
+/// and nothing is told.
 fn gets(
     rt: &(impl Abort + AllocGlobal + Threads + Sync),
     text: &[u8],
-    mut writer: ShortWriter,
+    writer: ShortWriter,
     status: Status,
     wanted: &[u8],
 ) -> bool {
-    let told = Ok(());
-    plan_to(rt, text, &mut writer) == Some(Ended { status, told })
-        && writer.got.as_slice() == wanted
+    let mut console = Console {
+        output: writer,
+        errors: Vec::new(rt.alloc()),
+    };
+    let (mut reader, told) = (text, Ok(()));
+    plan_on(rt.alloc(), "-", &mut reader, &mut console) == Ended { status, told }
+        && console.errors.is_empty()
+        && console.output.got.as_slice() == wanted
 }
 
 /// Whether the lines are written up to the room, and all of them after an interruption.

@@ -1,5 +1,5 @@
 -- How a script that isn't read stops.
-use Rattle.std.proofs.Common.{ℕ, Bool, List, Option, refl, inl, inr}
+use Rattle.std.proofs.Common.{ℕ, Bool, List, Option, Some, None, IfSome, refl, inl, inr}
 use Rattle.std.proofs.KnownBytes.{Keeps-refl}
 use Rattle.std.specs.Borrow.{Bor}
 use Rattle.console_io.specs.Inputs.{Files}
@@ -20,3 +20,9 @@ pub ends-unread : (files : Files) (name : Bor (List ℕ)) (text : List ℕ) (fau
     (a : Option (List ℕ)) → EndsAuditBy files name.now text (fault_of_input name fault) R a a
 ends-unread files name text input.Unread R a = inl (name, refl, refl, Keeps-refl a)
 ends-unread files name text input.Memory R a = inr (inl (inl (refl, tt), Keeps-refl a))
+
+-- where its text may be known
+pub ends-unread-known : (files : Files) (name : Bor (List ℕ)) (known : Option (List ℕ)) (fault : InputFault) (R : Type 0)
+    (a : Option (List ℕ)) → IfSome known (λ text. EndsAuditBy files name.now text (fault_of_input name fault) R a a)
+ends-unread-known files name None fault R a = tt
+ends-unread-known files name (Some text) fault R a = ends-unread files name text fault R a

@@ -1,6 +1,8 @@
 use Rattle.std.proofs.Common.{◌∙◌, inl, inr}
 use Rattle.std.proofs.KnownBytes.{Appends-nil}
 use Rattle.std.proofs.lemmas.Option.{IfSome_then}
+use Rattle.script_run.specs.RunFaults.{fault_of_input}
+use Rattle.script_run.proofs.SharedTold.{ends-unread-known}
 use Rattle.script_run.proofs.shared.audit.audit_with.Goals as goal
 
 pub returns-in-Ok-Agreed-clause-agreed : goal.returns-in-Ok-Agreed-clause-agreed
@@ -21,6 +23,13 @@ returns-in-Ok-Disagrees-clause-fails g c failure =
       rw (c.as_slice.ensures.value ∙ same, c.in-Ok-Disagrees.field-0-is) at c.in-Ok-Disagrees.ensures.ok,
     )) in
     inl (written, rw c.failed-in-Ok-Disagrees.ensures (Appends-nil (g.E.Write.contents c.args.console.now.errors)))
+
+pub returns-in-Err-clause-fails : goal.returns-in-Err-clause-fails
+returns-in-Err-clause-fails g c failure =
+    let name = c.args.options.name in
+    let ends = ends-unread-known (g.S.Source.file c.args.script.files) name (g.I.Read.remaining c.args.script.text)
+    c.in-Err.fault (g.W.Sink.refuses c.args.console.now.output) (g.W.Write.contents c.args.console.now.output) in
+    inr (fault_of_input name c.in-Err.fault, ends, rw c.failed.ensures (rw c.of_input-fault.ensures at c.say_run_fault.ensures))
 
 pub returns-clause-fails : goal.returns-clause-fails
 returns-clause-fails g c failure =

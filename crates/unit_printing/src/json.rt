@@ -4,14 +4,15 @@
 //! that isn't there, or of a stream's refusal, and has just the members that are printed; the
 //! controls of a request are the kernel's structs of linux_layouts, six of a slice or four of a
 //! picture. `serde` and `serde_json` write it, by the encoder `Json`; what prints lines is generic
-//! over the `Encoder`. `plan_json_for` reads a whole input, has its access units read in threads and
-//! folded by request_core, and writes the line of each, or that of the stream's refusal. Above are
-//! script_run, serve_answers and cli.
+//! over the `Encoder`, which a `JsonForm` names with the decoder's mode. `plan_json_for` reads a
+//! whole input, has its access units read in threads and folded by request_core, and writes the
+//! line of each, or that of the stream's refusal. Above are script_run, serve_answers and cli.
 
 mod decode_mode;
 mod encoding;
 mod folding;
 mod frame_json;
+mod json_form;
 mod json_line;
 mod numbered;
 mod plan_json;
@@ -22,6 +23,7 @@ mod telling;
 pub use decode_mode::DecodeMode;
 pub use encoding::{Encoder, Json};
 pub use frame_json::FrameJson;
+pub use json_form::JsonForm;
 pub use json_line::{CountsJson, FramePlanJson, HeadJson, JsonLine, PlanJson};
 pub use plan_json::plan_json_for;
 pub use request_json::{RequestJson, RequestsJson};

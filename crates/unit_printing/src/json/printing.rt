@@ -2,13 +2,12 @@
 
 ghost use Rattle.std.specs.Prelude.{◌≡◌, ◌≤◌, length, IsErrOf, OnOk};
 ghost use Rattle.access_unit.specs.Rooms.{most_units};
-ghost use Rattle.unit_printing.specs.JsonLines.{told_line};
 ghost use Rattle.unit_printing.specs.StreamLines.{json_lines};
 ghost use Rattle.unit_printing.specs.Said.{AreSaid, Said, SaysStream};
 
 use crate::json::folding::fold;
 use crate::json::telling::told;
-use crate::json::{DecodeMode, Encoder, JsonLine};
+use crate::json::{Encoder, JsonForm, JsonLine};
 use access_unit::Unit;
 use console_io::{PrintFault, Sink, write_bytes};
 use h264_types::pictures::AuId;
@@ -19,27 +18,25 @@ use unit_outcomes::doubts::Doubt;
 /// Prints the line of each unit of a stream.
 pub(crate) fn print_stream<J: Encoder, W: Sink>(
     alloc: Global,
-    encoder: &J,
-    mode: DecodeMode,
+    form: JsonForm<'_, J>,
     units: &[Unit],
     writer: &mut W,
 ) -> Result<(), PrintFault>
     requires { length units.now ≤ most_units }
-    ensures ok { OnOk result (SaysStream J.says mode units.now
+    ensures ok { OnOk result (SaysStream J.says form.entry.mode units.now
         (W.contents writer.old) (W.contents writer.new)) }
     ensures refused { IsErrOf result PrintFault.Unwritten → W.refuses writer.new }
 {
     let outcomes = fold(alloc, units)?;
     let positions = output_order::positions(alloc, &outcomes)?;
     let told = told(alloc, units, &outcomes)?;
-    print_units(alloc, encoder, mode, &outcomes, &positions, &told, writer)
+    print_units(alloc, form, &outcomes, &positions, &told, writer)
 }
 
 /// Prints the line of each unit by its outcome and what is told of it, with ids from 1 on.
 fn print_units<J: Encoder, W: Sink>(
     alloc: Global,
-    encoder: &J,
-    mode: DecodeMode,
+    form: JsonForm<'_, J>,
     outcomes: &[Outcome],
     positions: &[Option<usize>],
     told: &[Doubt],
@@ -49,35 +46,17 @@ fn print_units<J: Encoder, W: Sink>(
     requires told { length told.now ≡ length outcomes.now }
     requires few { length outcomes.now ≤ most_units }
     ensures ok { OnOk result (AreSaid J.says
-        (json_lines mode 1 outcomes.now positions.now told.now)
+        (json_lines form.entry.mode 1 outcomes.now positions.now told.now)
         (W.contents writer.old) (W.contents writer.new)) }
     ensures refused { IsErrOf result PrintFault.Unwritten → W.refuses writer.new }
 {
     for (place, outcome) in outcomes.iter().enumerate() {
         let id = AuId::new(place as u32 + 1);
         let (position, told) = (positions[place], told[place]);
-        print_unit(alloc, encoder, mode, id, position, outcome, told, writer)?;
+        let line = JsonLine::of_told(alloc, form.mode, id, position, outcome, told)?;
+        print_line(alloc, form.encoder, &line, writer)?;
     }
     Ok(())
-}
-
-/// Prints the line of a unit.
-fn print_unit<J: Encoder, W: Sink>(
-    alloc: Global,
-    encoder: &J,
-    mode: DecodeMode,
-    id: AuId,
-    position: Option<usize>,
-    outcome: &Outcome,
-    told: Doubt,
-    writer: &mut W,
-) -> Result<(), PrintFault>
-    ensures ok { OnOk result (Said J.says (told_line mode id position outcome.now told)
-        (W.contents writer.old) (W.contents writer.new)) }
-    ensures refused { IsErrOf result PrintFault.Unwritten → W.refuses writer.new }
-{
-    let line = JsonLine::of_told(alloc, mode, id, position, outcome, told)?;
-    print_line(alloc, encoder, &line, writer)
 }
 
 /// Prints a line.

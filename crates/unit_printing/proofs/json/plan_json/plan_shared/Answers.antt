@@ -10,7 +10,7 @@ returns-in-Ok-clause-ends g c failure =
 pub returns-in-Ok-print_line-clause-ends : goal.returns-in-Ok-print_line-clause-ends
 returns-in-Ok-print_line-clause-ends g c failure =
     let read = rw c.in-Err-Refused.field-0-is at c.in-Err-Refused.ensures.read in
-    let said = rw (c.of_refusal.ensures, c.in-Err-Refused.field-0-is) at c.in-Ok-print_line.ensures.ok in
+    let said = rw c.of_refusal-line.ensures at c.in-Ok-print_line.ensures.ok in
     (refused c.in-Err-Refused.refusal, (read, said), λ name. rw c.failed-in-Ok-print_line.ensures c.say_nothing.ensures)
 
 pub returns-in-Err-Refused-clause-ends : goal.returns-in-Err-Refused-clause-ends

@@ -28,7 +28,7 @@ print_units-requires-clause-few g c =
 
 pub returns-clause-ok : goal.returns-clause-ok
 returns-clause-ok g c =
-    on_ok_weaker c.print_units.result (says-stream g.J.Encoder.says c.args.mode c.args.units.now c.deref-3.result.now
+    on_ok_weaker c.print_units.result (says-stream g.J.Encoder.says c.args.form.mode c.args.units.now c.deref-3.result.now
     c.deref-4.result.now c.deref-5.result.now _ _ (c.deref-3.ensures.value ∙ c.in_ok-outcomes.ensures)
     (c.deref-4.ensures.value ∙ (rw (c.deref.ensures.value, c.in_ok-outcomes.ensures) at c.in_ok-positions.ensures))
     (rw (c.deref-2.ensures.value, c.in_ok-outcomes.ensures, ← c.deref-5.ensures.value) at c.in_ok-told.ensures)) c.print_units.ensures.ok

@@ -11,5 +11,6 @@ loop-place-preserved g c end rest =
     let known : place < length c.args.told.now = omega (arith, c.requires.told, here) in
     let is = c.new-id.ensures in
     let id_is : c.new-id.result ≡ place + 1 = omega (arith, is) in
-    c.loop-place.invariant end (said-next g.J.Encoder.says c.args.mode outcomes c.args.positions.now c.args.told.now place c.new-id.result
-    _ _ _ _ _ end here there known id_is c.index-outcomes-place.is refl c.index-told-place.is c.in_ok-print_unit.ensures.ok rest)
+    let said = rw c.in_ok-line.ensures at c.in_ok-print_line.ensures.ok in
+    c.loop-place.invariant end (said-next g.J.Encoder.says c.args.form.mode outcomes c.args.positions.now c.args.told.now place
+    c.new-id.result _ _ _ _ _ end here there known id_is c.index-outcomes-place.is refl c.index-told-place.is said rest)

@@ -1,6 +1,6 @@
 //! What `check` says of files. Lines were worked out by hand from docs/OUTPUT.md and the standard.
 
-use super::{joined, row_holds};
+use super::{joined, new_console, row_holds};
 use Status::{Failure, Success};
 use check_report::{Form, check_on};
 use console_io::Status;
@@ -93,18 +93,14 @@ fn is_checked(
     row: &Check,
 ) -> Result<bool, AllocError> {
     let text = joined(rt.alloc(), row.0)?;
-    let (mut output, mut errors) = (Vec::new(rt.alloc()), Vec::new(rt.alloc()));
+    let mut console = new_console(rt.alloc());
     let mut reader = text.as_slice();
-    let ended = check_on(
-        rt,
-        rt.alloc(),
-        form,
-        "-",
-        &mut reader,
-        &mut output,
-        &mut errors,
-    );
-    Ok(ended.status == row.1 && output.as_slice() == row.2.as_bytes() && errors.is_empty())
+    let ended = check_on(rt, rt.alloc(), form, "-", &mut reader, &mut console);
+    Ok(
+        ended.status == row.1
+            && console.output.as_slice() == row.2.as_bytes()
+            && console.errors.is_empty(),
+    )
 }
 
 #[test]

@@ -1,14 +1,14 @@
 //! Whole lines of `plan --json`: each member was worked out by hand from the stream's bits, ITU-T
 //! H.264 and the kernel's header `linux/v4l2-controls.h`.
 
-use super::{joined, row_holds};
+use super::{joined, new_console, row_holds};
 use Status::Success;
 use console_io::Status;
 use std::alloc::{AllocError, Global};
 use std::process::Abort;
 use std::test::Fail;
 use std::thread::Threads;
-use unit_printing::json::{DecodeMode, Json, plan_json_for};
+use unit_printing::json::{DecodeMode, Json, JsonForm, plan_json_for};
 
 /// A part of a line: a text that stands so often, with commas between.
 type Part = (&'static str, usize);
@@ -285,20 +285,14 @@ fn ends_with(
     line: &str,
 ) -> Result<bool, AllocError> {
     let text = joined(rt.alloc(), parts)?;
-    let (mut output, mut errors) = (Vec::new(rt.alloc()), Vec::new(rt.alloc()));
+    let mut console = new_console(rt.alloc());
     let mut reader = text.as_slice();
-    let mode = DecodeMode::SliceBased;
-    let ended = plan_json_for(
-        rt,
-        rt.alloc(),
-        &Json,
-        mode,
-        "-",
-        &mut reader,
-        &mut output,
-        &mut errors,
-    );
-    Ok(ended.status == Success && output.as_slice().ends_with(line.as_bytes()))
+    let form = JsonForm {
+        encoder: &Json,
+        mode: DecodeMode::SliceBased,
+    };
+    let ended = plan_json_for(rt, rt.alloc(), form, "-", &mut reader, &mut console);
+    Ok(ended.status == Success && console.output.as_slice().ends_with(line.as_bytes()))
 }
 
 #[test]

@@ -2,14 +2,14 @@
 //! by hand from docs/OUTPUT.md and the standard; the controls of a picture are those of its first
 //! slice.
 
-use super::joined;
+use super::{joined, new_console};
 use Status::Success;
-use console_io::Status;
+use console_io::{Console, Status};
 use std::alloc::{AllocError, Global};
 use std::process::Abort;
 use std::test::Fail;
 use std::thread::Threads;
-use unit_printing::json::{DecodeMode, Json, plan_json_for};
+use unit_printing::json::{DecodeMode, Json, JsonForm, plan_json_for};
 
 /// A sequence parameter set of one macroblock with frame_num of four bits, a picture parameter set
 /// and an IDR picture.
@@ -54,18 +54,14 @@ fn planned(
     parts: &[&[u8]],
 ) -> Result<Vec<u8>, AllocError> {
     let text = joined(rt.alloc(), parts)?;
-    let (mut output, mut errors) = (Vec::new(rt.alloc()), Vec::new(rt.alloc()));
+    let mut console = new_console(rt.alloc());
     let mut reader = text.as_slice();
-    let ended = plan_json_for(
-        rt,
-        rt.alloc(),
-        &Json,
+    let form = JsonForm {
+        encoder: &Json,
         mode,
-        "-",
-        &mut reader,
-        &mut output,
-        &mut errors,
-    );
+    };
+    let ended = plan_json_for(rt, rt.alloc(), form, "-", &mut reader, &mut console);
+    let Console { output, errors } = console;
     assert!(rt; ended.status == Success && errors.is_empty());
     Ok(output)
 }

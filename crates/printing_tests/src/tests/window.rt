@@ -1,6 +1,6 @@
 //! Each table's rows were worked out by hand from docs/OUTPUT.md and the standard.
 
-use super::{joined, row_holds};
+use super::{joined, new_console, row_holds};
 use Status::{Failure, Success};
 use console_io::Status;
 use plan_stream::plan_on;
@@ -81,11 +81,11 @@ fn is_planned(
     lines: &str,
     told: &str,
 ) -> bool {
-    let (mut output, mut errors) = (Vec::new(alloc), Vec::new(alloc));
-    let ended = plan_on(alloc, "-", &mut reader, &mut output, &mut errors);
+    let mut console = new_console(alloc);
+    let ended = plan_on(alloc, "-", &mut reader, &mut console);
     ended.status == status
-        && output.as_slice() == lines.as_bytes()
-        && errors.as_slice() == told.as_bytes()
+        && console.output.as_slice() == lines.as_bytes()
+        && console.errors.as_slice() == told.as_bytes()
 }
 
 /// Whether the whole text is planned so, where a reader gives so many bytes at a time.

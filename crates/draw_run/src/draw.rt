@@ -12,40 +12,40 @@ ghost use Rattle.draw_run.specs.Folds.{IsFoldOf};
 use crate::choice::Choice;
 use crate::drawn::kept_units;
 use crate::drawn_fold::DrawnFold;
-use console_io::{Ended, Sink, Status, write_bytes};
+use console_io::{Console, Ended, Sink, Status, write_bytes};
 use plan_stream::{PlanFault, StreamGathering, gather, print_refusal, say_plan_fault};
 use std::alloc::{AllocError, Global};
 use std::io::Read;
 use stream_svg::{document, lay_out};
 
 /// Draws the chosen units of the stream that the reader gives, or prints the stream's refusal.
-/// Where the reader fails or memory runs out, `errors` is told; the reader has this name there.
+/// Where the reader fails or memory runs out, `console.errors` is told; the reader has this name
+/// there.
 pub fn draw_on<R: Read, W: Sink, E: Sink>(
     alloc: Global,
     name: &str,
     choice: Choice,
     reader: &mut R,
-    writer: &mut W,
-    errors: &mut E,
+    console: &mut Console<W, E>,
 ) -> Ended
     ensures done { result.status ≡ Status.Success
-        → Keeps (E.contents errors.old) (E.contents errors.new) }
+        → Keeps (E.contents console.old.errors) (E.contents console.new.errors) }
     // At success the text that was read is a stream, and one document is written.
     ensures drawn { result.status ≡ Status.Success → IfSome (R.remaining reader.old) (λ text.
-        WritesDrawing choice.from choice.units text (W.contents writer.old)
-        (W.contents writer.new)) }
+        WritesDrawing choice.from choice.units text (W.contents console.old.output)
+        (W.contents console.new.output)) }
     // At a failure it is what the fault that is told leaves of it.
     ensures ends { result.status ≡ Status.Failure → (fault : PlanFault)
         × IfSome (R.remaining reader.old) (λ text.
-        EndsBy choice.from choice.units text fault (W.refuses writer.new)
-        (W.contents writer.old) (W.contents writer.new))
-        × Tells result.told (E.refuses errors.new) (E.contents errors.old) (E.contents errors.new)
-        (plan_fault_text name.now fault) }
+        EndsBy choice.from choice.units text fault (W.refuses console.new.output)
+        (W.contents console.old.output) (W.contents console.new.output))
+        × Tells result.told (E.refuses console.new.errors) (E.contents console.old.errors)
+        (E.contents console.new.errors) (plan_fault_text name.now fault) }
     ensures usage { result.status ≢ Status.Usage }
 {
-    match draw(alloc, choice, reader, writer) {
+    match draw(alloc, choice, reader, &mut console.output) {
         Ok(()) => Ended::done(),
-        Err(fault) => Ended::failed(say_plan_fault(fault, name, errors)),
+        Err(fault) => Ended::failed(say_plan_fault(fault, name, &mut console.errors)),
     }
 }
 

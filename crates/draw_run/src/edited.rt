@@ -14,7 +14,7 @@ use crate::loading::loaded;
 use crate::settling::settle;
 use access_unit::Refusal;
 use bytes::Bytes;
-use console_io::{Ended, PrintFault, Sink, Status, write_bytes};
+use console_io::{Console, Ended, PrintFault, Sink, Status, write_bytes};
 use edit_script::{EditCommand, read_edit_script};
 use plan_stream::print_refusal;
 use stand_in_session::Session;
@@ -23,36 +23,36 @@ use std::thread::Threads;
 
 /// Draws the chosen units of the stream of a text after the edits of a script, which are made when
 /// all pictures of the stream are held; or prints the stream's refusal. What is refused of the
-/// edits is told to `errors`, as is a line of the script that is no edit, and that memory runs out.
+/// edits is told to `console.errors`, as is a line of the script that is no edit, and that memory
+/// runs out.
 pub fn draw_edited<W: Sink, E: Sink>(
     threads: &(impl Threads + Sync),
     alloc: Global,
     choice: EditedChoice,
     text: &Bytes,
     script: &[u8],
-    writer: &mut W,
-    errors: &mut E,
+    console: &mut Console<W, E>,
 ) -> Ended
     // At success one document is written, and what is told is what was refused of the edits.
     ensures done { result.status ≡ Status.Success → (told : List ℕ)
         × WritesEdited choice.from choice.units text.now script.now told
-        (W.contents writer.old) (W.contents writer.new)
-        × Tells result.told (E.refuses errors.new) (E.contents errors.old)
-        (E.contents errors.new) told }
+        (W.contents console.old.output) (W.contents console.new.output)
+        × Tells result.told (E.refuses console.new.errors) (E.contents console.old.errors)
+        (E.contents console.new.errors) told }
     // At a failure it is what the fault that is told leaves of it.
     ensures ends { result.status ≡ Status.Failure → (fault : Fault)
-        × EndsBy choice.from choice.units text.now script.now fault (W.refuses writer.new)
-        (W.contents writer.old) (W.contents writer.new)
-        × Tells result.told (E.refuses errors.new) (E.contents errors.old) (E.contents errors.new)
-        (edits_fault_text fault) }
+        × EndsBy choice.from choice.units text.now script.now fault (W.refuses console.new.output)
+        (W.contents console.old.output) (W.contents console.new.output)
+        × Tells result.told (E.refuses console.new.errors) (E.contents console.old.errors)
+        (E.contents console.new.errors) (edits_fault_text fault) }
     ensures usage { result.status ≢ Status.Usage }
 {
-    match draw(threads, alloc, choice, text, script, writer) {
+    match draw(threads, alloc, choice, text, script, &mut console.output) {
         Ok(told) => Ended {
             status: Status::Success,
-            told: write_bytes(errors, told.as_bytes()),
+            told: write_bytes(&mut console.errors, told.as_bytes()),
         },
-        Err(fault) => Ended::failed(say_edits_fault(fault, errors)),
+        Err(fault) => Ended::failed(say_edits_fault(fault, &mut console.errors)),
     }
 }
 

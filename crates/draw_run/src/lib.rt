@@ -5,7 +5,8 @@
 //! `draw_edited` makes a session of the stream with all its pictures held, marks the stream, makes
 //! the script's edits on it, and writes the document of the stream that they leave: it shows of each
 //! unit whether it is altered since, and whether its picture is held or pending. A unit in doubt is
-//! shown so, and said to follow the fault that it follows. What is read and written is generic. Below are unit_drawing, stream_svg, plan_stream and edit_engine; above is cli.
+//! shown so, and said to follow the fault that it follows. What is read and written is generic.
+//! Below are stream_svg, plan_stream, edit_script and stand_in_session; above is cli.
 #![tactic(auto)]
 
 mod choice;

@@ -14,7 +14,8 @@ ghost use Rattle.serve_run.specs.Serving.{GoesOn, GoesOnAfter, ServesAll, end_an
 use crate::answers::Answers;
 use crate::end::ServeEnd;
 use crate::line_writer::{Fault, LineWriter};
-use crate::lines::{Line, Lines, MOST_BYTES};
+use crate::lines::{Line, Lines};
+use crate::service::Service;
 use console_io::Source;
 use console_io::file_saving::Saver;
 use failure_reasons::Explain;
@@ -29,15 +30,12 @@ use std::slice;
 use std::thread::Threads;
 
 /// Serves the messages of an input with a session alone, in this thread. The steps of a journal are
-/// made again first, where there is one, and what is edited is recorded in it. The files that are
-/// loaded are the source's, which says beside the answer why it isn't taken of one that isn't.
+/// made again first, where there is one, and what is edited is recorded in it. The files say beside
+/// the answer why one that is to be loaded isn't taken.
 pub fn serve_alone<R, K, I, S, W>(
     rt: &R,
     alloc: Global,
-    cache: u16,
-    journal: Option<(K, Vec<Step>)>,
-    input: I,
-    source: S,
+    service: Service<K, I, S>,
     output: &mut W,
 ) -> ServeEnd
 where
@@ -47,14 +45,15 @@ where
     S: Saver + Explain + Drop,
     W: Write,
 {
-    let Ok(backend) = Alone::open(alloc, cache) else {
+    let Ok(backend) = Alone::open(alloc, service.cache) else {
         return ServeEnd::Memory;
     };
-    let Ok(mut lines) = Lines::of(alloc, input, MOST_BYTES) else {
+    let Ok(reading) = service.reading(alloc) else {
         return ServeEnd::Memory;
     };
-    let mut server = Server::new(alloc, Journaled::new(backend), source);
-    if let Err(end) = resume(&mut server, journal) {
+    let mut lines = reading.lines;
+    let mut server = Server::new(alloc, Journaled::new(backend), reading.files);
+    if let Err(end) = resume(&mut server, reading.journal) {
         return end;
     }
     let mut writer = LineWriter::new(alloc, output);

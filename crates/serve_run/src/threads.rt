@@ -5,13 +5,14 @@ ghost use Rattle.std.specs.Prelude.{◌≡◌, ◌≤◌, length, IfOk};
 
 use crate::desk_backend::{DeskBackend, SharedDesk};
 use crate::end::ServeEnd;
-use crate::lines::{Lines, MOST_BYTES};
+use crate::lines::Lines;
+use crate::service::{Reading, Service};
 use crate::serving::{resume, serve_line};
 use console_io::file_saving::Saver;
 use decode_pool::{Gate, worker};
 use failure_reasons::Explain;
 use serve_calls::{Journaled, Server};
-use session_journal::{Records, Step};
+use session_journal::Records;
 use stand_in_device::Device;
 use std::alloc::{AllocError, Global};
 use std::io::{Read, Write};
@@ -23,11 +24,8 @@ use std::thread::{Scope, Threads};
 pub fn serve_with_workers<R, K, I, S, W>(
     rt: &R,
     alloc: Global,
-    cache: u16,
     workers: usize,
-    journal: Option<(K, Vec<Step>)>,
-    input: I,
-    source: S,
+    service: Service<K, I, S>,
     output: &mut W,
 ) -> ServeEnd
 where
@@ -36,11 +34,11 @@ where
     I: Read + Drop,
     S: Saver + Explain + Drop,
     W: Write + Send,
-    requires cache { (1 ≤ cache) × (cache ≤ 4096) }
+    requires cache { (1 ≤ service.cache) × (service.cache ≤ 4096) }
     requires workers { (1 ≤ workers) × (workers ≤ 64) }
 {
     match devices(alloc, workers) {
-        Ok(gates) => serve_with(rt, alloc, cache, gates, journal, input, source, output),
+        Ok(gates) => serve_with(rt, alloc, gates, service, output),
         Err(_) => ServeEnd::Memory,
     }
 }
@@ -56,16 +54,12 @@ fn devices(alloc: Global, count: usize) -> Result<Vec<Device>, AllocError>
     Ok(made)
 }
 
-/// Serves the messages of an input while a worker for each gate decodes in a thread of its own. The
-/// files that are loaded are the source's.
+/// Serves the messages of an input while a worker for each gate decodes in a thread of its own.
 pub fn serve_with<R, D, K, I, S, W>(
     rt: &R,
     alloc: Global,
-    cache: u16,
     gates: Vec<D>,
-    journal: Option<(K, Vec<Step>)>,
-    input: I,
-    source: S,
+    service: Service<K, I, S>,
     output: &mut W,
 ) -> ServeEnd
 where
@@ -75,14 +69,15 @@ where
     I: Read + Drop,
     S: Saver + Explain + Drop,
     W: Write + Send,
-    requires cache { (1 ≤ cache) × (cache ≤ 4096) }
+    requires cache { (1 ≤ service.cache) × (service.cache ≤ 4096) }
     requires workers { (1 ≤ length gates.items) × (length gates.items ≤ 64) }
 {
-    let Ok(lines) = Lines::of(alloc, input, MOST_BYTES) else {
+    let cache = service.cache;
+    let Ok(reading) = service.reading(alloc) else {
         return ServeEnd::Memory;
     };
     match SharedDesk::open(alloc, cache, gates.len(), output) {
-        Ok(shared) => serve_beside(rt, alloc, &shared, gates, journal, lines, source),
+        Ok(shared) => serve_beside(rt, alloc, &shared, gates, reading),
         Err(_) => ServeEnd::Memory,
     }
 }
@@ -94,9 +89,7 @@ fn serve_beside<'a, R, D, K, I, S, W>(
     alloc: Global,
     shared: &'a SharedDesk<W>,
     gates: Vec<D>,
-    journal: Option<(K, Vec<Step>)>,
-    lines: Lines<I>,
-    source: S,
+    reading: Reading<K, I, S>,
 ) -> ServeEnd
 where
     R: Threads + Wait + Sync,
@@ -107,7 +100,7 @@ where
     W: Write + Send + Drop,
 {
     thread::scope(thread::scope_env(), rt, move |scope| -> ServeEnd {
-        let end = serve_among(scope, rt, alloc, shared, gates, journal, lines, source);
+        let end = serve_among(scope, rt, alloc, shared, gates, reading);
         shared.desk.close(rt);
         end
     })
@@ -120,9 +113,7 @@ fn serve_among<'s, E, R, D, K, I, S, W>(
     alloc: Global,
     shared: &'s SharedDesk<W>,
     gates: Vec<D>,
-    journal: Option<(K, Vec<Step>)>,
-    lines: Lines<I>,
-    source: S,
+    reading: Reading<K, I, S>,
 ) -> ServeEnd
 where
     R: Threads + Wait + Sync,
@@ -143,7 +134,7 @@ where
     if scope.spawn(move || tell_on(rt, shared)).is_err() {
         return ServeEnd::Memory;
     }
-    serve_lines(rt, alloc, shared, journal, lines, source)
+    serve_lines(rt, alloc, shared, reading)
 }
 
 /// Tells of wanted units whenever the session may have another picture to show, until the desk is
@@ -177,9 +168,7 @@ fn serve_lines<R, K, I, S, W>(
     rt: &R,
     alloc: Global,
     shared: &SharedDesk<W>,
-    journal: Option<(K, Vec<Step>)>,
-    lines: Lines<I>,
-    source: S,
+    reading: Reading<K, I, S>,
 ) -> ServeEnd
 where
     R: Threads + Wait + Sync,
@@ -193,9 +182,9 @@ where
         desk: &shared.desk,
         seat: &shared.seat,
     };
-    let mut lines = lines;
-    let mut server = Server::new(alloc, Journaled::new(backend), source);
-    if let Err(end) = resume(&mut server, journal) {
+    let mut lines = reading.lines;
+    let mut server = Server::new(alloc, Journaled::new(backend), reading.files);
+    if let Err(end) = resume(&mut server, reading.journal) {
         return end;
     }
     for _ in 0..u64::MAX {

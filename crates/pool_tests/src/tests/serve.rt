@@ -16,7 +16,7 @@ use console_io::file_saving::{Saver, Unsaved};
 use console_io::{InputFault, Source};
 use failure_reasons::Explain;
 use recorded::Few;
-use serve_run::{ServeEnd, serve_alone};
+use serve_run::{ServeEnd, Service, serve_alone};
 use session_journal::Step;
 use std::alloc::{AllocError, Global};
 use std::process::Abort;
@@ -88,6 +88,18 @@ fn unrecorded() -> Option<(Few, Vec<Step>)> {
     None
 }
 
+/// What a server serves with over this journal, if there is one, and this input.
+fn service<I>(journal: Option<(Few, Vec<Step>)>, input: I) -> Service<Few, I, OneFile>
+    ensures { result.cache ≡ 64 }
+{
+    Service {
+        cache: 64,
+        journal,
+        input,
+        files: OneFile,
+    }
+}
+
 /// What a session alone writes for these bytes, and how it ends.
 fn served<R: AllocGlobal + Threads + Sync>(rt: &R, input: &[u8]) -> (ServeEnd, Vec<u8>) {
     served_by(rt, unrecorded(), input)
@@ -100,7 +112,7 @@ fn served_by<R: AllocGlobal + Threads + Sync>(
     input: &[u8],
 ) -> (ServeEnd, Vec<u8>) {
     let mut output = Vec::new(rt.alloc());
-    let end = serve_alone(rt, rt.alloc(), 64, journal, input, OneFile, &mut output);
+    let end = serve_alone(rt, rt.alloc(), service(journal, input), &mut output);
     (end, output)
 }
 

@@ -1,6 +1,6 @@
 //! A server beside workers.
 
-use super::{OneFile, unrecorded};
+use super::{service, unrecorded};
 use serve_run::{ServeEnd, serve_with_workers};
 use std::alloc::Global;
 use std::io;
@@ -124,16 +124,8 @@ fn a_wanted_picture_is_told_once(rt: HostRuntime) {
         rt: &rt,
         board: &board,
     };
-    let end = serve_with_workers(
-        &rt,
-        rt.alloc(),
-        64,
-        2,
-        unrecorded(),
-        input,
-        OneFile,
-        &mut output,
-    );
+    let service = service(unrecorded(), input);
+    let end = serve_with_workers(&rt, rt.alloc(), 2, service, &mut output);
     let text = board.text.lock(&rt);
     assert!(rt; end == ServeEnd::Done && text.ends_with(TAKEN.as_bytes()));
     assert!(rt; count_of(&text, TELLS) == 1);

@@ -1,6 +1,6 @@
 //! How a server ends.
 
-use super::{OneFile, served, unrecorded};
+use super::{served, service, unrecorded};
 use serve_run::{ServeEnd, serve_alone};
 use std::io;
 use std::io::{ErrorKind, Read, Write};
@@ -39,29 +39,15 @@ fn shutdown_ends_a_server(rt: HostRuntime) {
 #[test]
 fn an_output_that_takes_nothing_ends_a_server(rt: HostRuntime) {
     let mut output = Broken;
-    let end = serve_alone(
-        &rt,
-        rt.alloc(),
-        64,
-        unrecorded(),
-        SHUTDOWN.as_bytes(),
-        OneFile,
-        &mut output,
-    );
+    let service = service(unrecorded(), SHUTDOWN.as_bytes());
+    let end = serve_alone(&rt, rt.alloc(), service, &mut output);
     assert!(rt; end == ServeEnd::Unwritten);
 }
 
 #[test]
 fn an_input_that_gives_nothing_ends_a_server(rt: HostRuntime) {
     let mut output = Vec::new(rt.alloc());
-    let end = serve_alone(
-        &rt,
-        rt.alloc(),
-        64,
-        unrecorded(),
-        Broken,
-        OneFile,
-        &mut output,
-    );
+    let service = service(unrecorded(), Broken);
+    let end = serve_alone(&rt, rt.alloc(), service, &mut output);
     assert!(rt; end == ServeEnd::Unread && output.is_empty());
 }

@@ -3,11 +3,11 @@
 //!
 //! `words` reads the process's words, and `parse` answers what they ask for, or clap's answer to
 //! them: help, the version, or what is wrong (docs/OUTPUT.md has the forms). `run` does what the
-//! process's words ask for, and `run_on` what given words ask for: a plan (plan_stream, unit_json),
-//! a stream mended (mend_run), a drawing (draw_run), a script in one thread (script_run) or
-//! beside workers (shared_run), an audit (shared_run), or a server (serve_run). `explain` says in
-//! words, behind a failure, why files and scripts weren't taken (failure_reasons). What opens, is read
-//! and is written is generic. Above is preview, which has the process's own.
+//! process's words ask for, and `run_on` what given words ask for: a plan (plan_stream,
+//! unit_printing), a stream mended (mend_run), a check (check_report), a drawing (draw_run), a
+//! script in one thread or beside workers and an audit (script_run), or a server (serve_run).
+//! `explain` says in words, behind a failure, why files and scripts weren't taken (failure_reasons).
+//! What opens, is read and is written is generic. Above is preview, which has the process's own.
 #![tactic(auto)]
 
 mod explaining;

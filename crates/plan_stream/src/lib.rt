@@ -5,7 +5,7 @@
 //! a byte stream to its end in this way, and has a `UnitFold` take each access unit, or says why
 //! the stream is refused. `plan_on` has each folded by request_core and keeps of it what its lines
 //! need; then it writes the lines, or the line of the stream's refusal. What is read and written is
-//! generic; below are console_io and unit_lines, and access_unit, whose definitions say which
+//! generic; below are console_io and unit_printing, and access_unit, whose definitions say which
 //! access units a stream has.
 #![tactic(auto)]
 

@@ -4,9 +4,9 @@
 //! `preview plan FILE` plans a byte stream and prints a block of lines for each access unit, or why
 //! the stream is refused (plan_stream); `preview draw FILE` draws one as SVG (draw_run), also after
 //! edits (draw_run); `preview run SCRIPT` edits a stream in a session, and prints what each edit
-//! and each question is answered, in one thread (script_run) or beside workers that decode
-//! (shared_run); `preview audit SCRIPT` says whether the book of such a run agrees with its journal
-//! (shared_run). docs/OUTPUT.md has the lines and the statuses. What the words ask for is read by
+//! and each question is answered, in one thread or beside workers that decode (script_run);
+//! `preview audit SCRIPT` says whether the book of such a run agrees with its journal (script_run).
+//! docs/OUTPUT.md has the lines and the statuses. What the words ask for is read by
 //! cli and done by cli, which says behind it why files weren't taken; this crate hands it the
 //! process's own words, files and streams.
 #![tactic(auto)]

@@ -1,9 +1,9 @@
 //! `preview run`: a script read, run on a session and answered line by line.
 //!
-//! `script_on` reads a script, runs its commands one after the other over a session of edit_engine,
-//! and writes what answers each. What it reads and writes, and the files that it loads, are
-//! generic. Below are edit_script, unit_lines and console_io; above are shared_run, whose lines are
-//! the same, and preview.
+//! `script_on` reads a script, runs its commands one after the other over a session of
+//! stand_in_session, and writes what answers each. What it reads and writes, and the files that it
+//! loads, are generic. `shared` runs a script beside workers, with the same lines. Below are
+//! edit_script, unit_printing, decode_pool and console_io; above are draw_run and cli.
 #![tactic(auto)]
 
 mod answers;

@@ -2,7 +2,7 @@
 //!
 //! A `JsonLine` is made of what the fold says of a unit and what doubts tells of it, of a unit
 //! that isn't there, or of a stream's refusal, and has just the members that are printed; the
-//! controls of a request are the kernel's structs of linux_layouts, six of a slice or four of a
+//! controls of a request are the kernel's structs of frame_requests, six of a slice or four of a
 //! picture. `serde` and `serde_json` write it, by the encoder `Json`; what prints lines is generic
 //! over the `Encoder`, which a `JsonForm` names with the decoder's mode. `plan_json_for` reads a
 //! whole input, has its access units read in threads and folded by request_core, and writes the

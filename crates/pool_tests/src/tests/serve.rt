@@ -1,5 +1,7 @@
 //! Messages and their answers, worked out by hand from docs/SERVER.md.
 
+ghost use Rattle.std.specs.Prelude.{◌≡◌};
+
 mod alone;
 mod anew;
 mod beside;

@@ -80,7 +80,7 @@ def constants(header):
 def library_constants():
     """The numbers of statuses and kinds in the library."""
     found = {}
-    for path in (TOP / "crates").glob("session_*/src/*.rt"):
+    for path in (TOP / "crates/c_calls/src").rglob("*.rt"):
         for name, value in re.findall(r"^pub const (\w+): u32 = (\d+);", path.read_text(), re.MULTILINE):
             found[name.removeprefix("KIND_")] = int(value)
     return found
@@ -89,7 +89,7 @@ def library_constants():
 def structs():
     """The members of the library's structs that cross, by the header's names: (type, name) each."""
     found = {}
-    for path in (TOP / "crates").glob("session_*/src/*.rt"):
+    for path in (TOP / "crates/c_calls/src").rglob("*.rt"):
         for name, inside in re.findall(r"#\[repr\(C\)\]\n(?:#\[[^\n]*\]\n)*pub struct (\w+) \{\n(.*?)\n\}", path.read_text(),
                                        re.DOTALL):
             if name in STRUCTS and name != "Handle":

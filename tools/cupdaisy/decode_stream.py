@@ -14,7 +14,7 @@ import tempfile
 from cupdaisy.workspace import TOP, below_all, lines_of
 
 NAME = "decode_stream"
-LIBRARIES = ["access_unit", "request_core", "unit_outcomes", "h264_controls", "stand_in_device", "pictures"]
+LIBRARIES = ["access_unit", "request_core", "unit_outcomes", "h264_controls", "stand_in_device", "h264_types"]
 KIT_LIBRARIES = ["bytes"]
 SOURCE = TOP / "bench" / NAME
 BUILT = SOURCE / "out" / NAME

@@ -89,7 +89,7 @@ typedef struct cupdaisy_receipt {
     uint64_t number; /* how many edits and groups were accepted, with this one */
     uint64_t steps;  /* how many steps of the fold over the stream it made */
     uint64_t hashed; /* how many bytes were hashed for it: those of the slices that it brings, once */
-    uint64_t changed_from;  /* the least stretch of places, of the stream after it, that has every unit which wasn't there before or */
+    uint64_t changed_from;  /* the least range of places, of the stream after it, that has every unit which wasn't there before or */
     uint64_t changed_count; /* has another outcome or key: its first place, and how many units it has; 0 and 0 where there is none */
     uint32_t id;     /* the unit that was inserted, deleted or replaced; ids are 1, 2, 3 and so on, and never given twice */
 } cupdaisy_receipt;

@@ -14,7 +14,7 @@ class Document:
 
     def __init__(self, path, workers, is_copy):
         self.path, self.is_copy, self.undone_by, self.redone_by, self.is_saved = pathlib.Path(path), is_copy, [], [], True
-        self.journal, self.stretch = None if is_copy else f"{self.path}.journal", (0, 0)
+        self.journal, self.range = None if is_copy else f"{self.path}.journal", (0, 0)
         # A session beside tries edits before they are made. It begins while the user looks at the first pictures.
         self.trials, self.beside = concurrent.futures.ThreadPoolExecutor(1), None
         file = self.path.read_bytes()
@@ -70,7 +70,7 @@ class Document:
 
     def made(self, splices):
         units = self.shown.units
-        back, self.stretch = self.shown.make(splices)
+        back, self.range = self.shown.make(splices)
         self.is_saved = False
         self.trials.submit(lambda: self.beside_of(units).make(splices))
         return back
@@ -108,7 +108,7 @@ class Document:
         stream = self.shown
         outcomes = list(enumerate(stream.outcomes))
         return {"name": self.path.name, "is_copy": self.is_copy, "is_saved": self.is_saved, "resumed": self.is_resumed,
-                "undo": len(self.undone_by), "redo": len(self.redone_by), "changed": self.stretch,
+                "undo": len(self.undone_by), "redo": len(self.redone_by), "changed": self.range,
                 "ids": stream.ids, "letters": "".join(unit.letter for unit in stream.units),
                 "references": "".join("01"[unit.is_reference] for unit in stream.units),
                 "idr": [place for place, unit in enumerate(stream.units) if unit.is_idr],

@@ -119,7 +119,7 @@ export class Pictures {
     return { bitmap: old && this.bitmap(old, isLarge), name, isStale, isFailed: this.failed.has(name) };
   }
 
-  /** Whether a unit is of the stretch that the last edit changed. */
+  /** Whether a unit is of the range that the last edit changed. */
   isChanged(id) {
     const [from, count] = this.stream.changed;
     const place = this.stream.places.get(id);

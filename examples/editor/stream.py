@@ -83,7 +83,7 @@ class Stream:
 
     def make(self, splices):
         """Makes splices, each (place, how many units go, the units that come), as one step. The answer is what undoes them, and the
-        stretch of places whose units may have changed."""
+        range of places whose units may have changed."""
         if len(self.ids) + sum(len(come) - gone for _, gone, come in splices) > MOST_UNITS:
             raise Refused(f"a stream has {MOST_UNITS:,} units at most", 17)
         ids, units, outcomes = self.ids[:], self.units[:], self.outcomes[:]
@@ -94,16 +94,16 @@ class Stream:
             units[place:place + gone] = come
             outcomes[place:place + gone] = [None] * len(come)
             marks = [mark + len(come) - gone if mark > place else mark for mark in marks] + [place, place + len(come)]
-        stretch = group.make()
+        range = group.make()
         self.ids, self.units, self.outcomes, self.next_id = ids, units, outcomes, group.next_id
         self.texts.update(zip(ids, units))
-        if stretch is None:
+        if range is None:
             return back, self.compared()
-        self.look_again(min([*marks, stretch[0]] if stretch[1] else marks), max([*marks, sum(stretch)] if stretch[1] else marks))
-        return back, stretch
+        self.look_again(min([*marks, range[0]] if range[1] else marks), max([*marks, sum(range)] if range[1] else marks))
+        return back, range
 
     def compared(self):
-        """Asks for all outcomes again, where no receipt tells what changed: the least stretch of places whose outcome isn't what it
+        """Asks for all outcomes again, where no receipt tells what changed: the least range of places whose outcome isn't what it
         was, but for its position. That a unit's requests are others isn't seen."""
         before, self.outcomes = self.outcomes, self.asked(0, len(self.ids))
         differ = [place for place, (old, new) in enumerate(zip(before, self.outcomes))
@@ -165,7 +165,7 @@ class Stream:
 
 
 class Group:
-    """Edits that are made together, in as few groups as the server takes, and the stretch that its receipt tells of them."""
+    """Edits that are made together, in as few groups as the server takes, and the range that its receipt tells of them."""
 
     def __init__(self, stream, ids):
         self.stream, self.next_id, self.ids, self.edits = stream, stream.next_id, ids, []
@@ -182,7 +182,7 @@ class Group:
         self.next_id += len(come)
 
     def make(self):
-        """Makes what was added. The answer is the stretch that the receipt tells; of several groups none is known for all."""
+        """Makes what was added. The answer is the range that the receipt tells; of several groups none is known for all."""
         receipts = []
         for part in parts(self.edits):
             try:

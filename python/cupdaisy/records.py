@@ -11,7 +11,7 @@ class Handle(Record):
 
 class Receipt(Record):
     """What an accepted edit is told: how many edits and groups were accepted, with this one; how many steps of the fold it made; how
-    many bytes were hashed for it; the least stretch of places that has each unit which it changed; and which unit was inserted, deleted
+    many bytes were hashed for it; the least range of places that has each unit which it changed; and which unit was inserted, deleted
     or replaced."""
     number: int
     steps: int

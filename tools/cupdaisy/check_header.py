@@ -7,16 +7,16 @@ NUMBERS = {"u8": "uint8_t", "u16": "uint16_t", "u32": "uint32_t", "u64": "uint64
            "i8": "int8_t", "i32": "int32_t", "bool": "bool"}
 # A struct of the library, and the type of the header that it is.
 STRUCTS = {"Handle": "cupdaisy_session", "EditReceipt": "cupdaisy_receipt", "UnitOutcome": "cupdaisy_outcome",
-           "DoubtTold": "cupdaisy_doubt", "LeftOutTold": "cupdaisy_left_out",
+           "UnitDoubt": "cupdaisy_doubt", "LeftOutBytes": "cupdaisy_left_out",
            "JobTaken": "cupdaisy_job", "JobInput": "cupdaisy_job_input",
-           "SliceRequest": "cupdaisy_request", "FrameTold": "cupdaisy_frame", "JobReference": "cupdaisy_reference",
-           "JournalEdit": "cupdaisy_journal_edit", "EditAsked": "cupdaisy_edit",
-           "GroupTold": "cupdaisy_group_receipt", "LoadTold": "cupdaisy_load_receipt",
-           "Sps": "struct v4l2_ctrl_h264_sps", "Pps": "struct v4l2_ctrl_h264_pps",
-           "ScalingMatrix": "struct v4l2_ctrl_h264_scaling_matrix",
-           "PredWeights": "struct v4l2_ctrl_h264_pred_weights",
-           "SliceParams": "struct v4l2_ctrl_h264_slice_params",
-           "DecodeParams": "struct v4l2_ctrl_h264_decode_params"}
+           "SliceRequest": "cupdaisy_request", "PictureRequest": "cupdaisy_frame", "JobReference": "cupdaisy_reference",
+           "JournalEdit": "cupdaisy_journal_edit", "GivenEdit": "cupdaisy_edit",
+           "EditsReceipt": "cupdaisy_group_receipt", "LoadReceipt": "cupdaisy_load_receipt",
+           "SpsLayout": "struct v4l2_ctrl_h264_sps", "PpsLayout": "struct v4l2_ctrl_h264_pps",
+           "ScalingMatrixLayout": "struct v4l2_ctrl_h264_scaling_matrix",
+           "PredWeightsLayout": "struct v4l2_ctrl_h264_pred_weights",
+           "SliceParamsLayout": "struct v4l2_ctrl_h264_slice_params",
+           "DecodeParamsLayout": "struct v4l2_ctrl_h264_decode_params"}
 
 
 def c_type(rust):

@@ -10,7 +10,7 @@ DELIMITER = START + b"\x09\xF0"
 FORBIDDEN = re.compile(rb"\x00\x00[\x00-\x02]|\x00\x00\x03[^\x00-\x03]", re.DOTALL)
 
 
-class Stretch(NamedTuple):
+class Segment(NamedTuple):
     """A NAL unit, the place of its start code, and how many zeros follow it."""
     byte: int
     unit: bytes
@@ -54,13 +54,13 @@ class Portion:
     """An access unit, with what is left out in it."""
 
     def __init__(self, is_delimited):
-        self.is_delimited, self.stretches = is_delimited, []
+        self.is_delimited, self.segments = is_delimited, []
 
     def sound(self):
-        return [stretch for stretch in self.stretches if not fault_of(stretch.unit)]
+        return [segment for segment in self.segments if not fault_of(segment.unit)]
 
     def slices(self):
-        return [stretch.unit for stretch in self.sound() if type_of(stretch.unit) in SLICES]
+        return [segment.unit for segment in self.sound() if type_of(segment.unit) in SLICES]
 
     def after(self, nal):
         """The access unit of the next NAL unit that isn't left out."""
@@ -74,12 +74,12 @@ class Portion:
     def ended(self):
         """What is written of it, how many NAL units stay, and what is told of it as a whole."""
         sound = self.sound()
-        text = text_of(stretch.unit for stretch in sound)
+        text = text_of(segment.unit for segment in sound)
         delimiter = DELIMITER if self.is_delimited else b""
         if len(delimiter + text) > MOST_BYTES or len(self.slices()) > MOST_SLICES:
-            return b"".join(bytes(stretch.zeros) for stretch in self.stretches), 0, told(sound[0].byte, len(text), "too large")
-        written = b"".join((START + stretch.unit if stretch in sound else b"") + bytes(stretch.zeros)
-                           for stretch in self.stretches)
+            return b"".join(bytes(segment.zeros) for segment in self.segments), 0, told(sound[0].byte, len(text), "too large")
+        written = b"".join((START + segment.unit if segment in sound else b"") + bytes(segment.zeros)
+                           for segment in self.segments)
         return delimiter + written, len(sound), ""
 
 
@@ -106,7 +106,7 @@ def mended(text):
         elif portion.after(unit) is not portion:
             kept += end()
             portion = portion.after(unit)
-        portion.stretches.append(Stretch(byte, unit, len(part) - len(unit)))
+        portion.segments.append(Segment(byte, unit, len(part) - len(unit)))
         byte += len(START + part)
     kept += end()
     return b"".join(output) if kept else b"", "".join(lines)

@@ -49,7 +49,7 @@ def told(row):
 
 
 def changed(before, after):
-    """The least stretch of places, as its first and how many, of all units that weren't there before or of which another thing is told;
+    """The least range of places, as its first and how many, of all units that weren't there before or of which another thing is told;
     both streams as lists of pairs of a unit and its row."""
     was = {unit[0]: told(row) for unit, row in before}
     places = [at for at, (unit, row) in enumerate(after) if unit[0] not in was or was[unit[0]] != told(row)]

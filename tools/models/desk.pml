@@ -5,7 +5,7 @@
  * who sleep, if any does; and a wait may end by itself too, as that of a worker does that gives late pictures back.
  *
  * Of a session stands here which pictures are pending, which of those are in a job that is out, and which wait for others
- * that they refer to. An edit may make any stretch of pictures pending or not, or change nothing, as a refused one; `take`
+ * that they refer to. An edit may make any range of pictures pending or not, or change nothing, as a refused one; `take`
  * may give any picture that is due, or refuse; a gate may hand any job back. Jobs that are out and whose pictures aren't
  * wanted are only counted, and an edit may want such a picture again. Who has which job isn't told: who brings one brings any
  * that is out, which takes in all that can happen. Seats go on for as long as they like.
@@ -367,11 +367,11 @@ end: false
 #define WAKES_FOR_WANTED tell(SEAT, free)
 #endif
 
-/* What an edit makes of the pictures of a stretch: their keys are others, or come back. */
-inline edit(stretch) {
+/* What an edit makes of the pictures of a range: their keys are others, or come back. */
+inline edit(range) {
     if
-    :: d_step { stale = stale + COUNT(out & (stretch)); out = out & ~(stretch); pending = pending | (stretch) }
-    :: d_step { stale = stale + COUNT(out & (stretch)); out = out & ~(stretch); pending = pending & ~(stretch) }
+    :: d_step { stale = stale + COUNT(out & (range)); out = out & ~(range); pending = pending | (range) }
+    :: d_step { stale = stale + COUNT(out & (range)); out = out & ~(range); pending = pending & ~(range) }
     fi
 }
 
@@ -398,7 +398,7 @@ inline close(place, after) {
 /* seat.rt: what a seat calls of a desk; show and last take the lock and wake nobody. */
 active [SEATS] proctype Seat() {
     do
-    :: atomic { SEAT == free ->         /* edit_read, edit_group_read; append_read, whose units are a stretch */
+    :: atomic { SEAT == free ->         /* edit_read, edit_group_read; append_read, whose units are a range */
         if
         :: edit(1)
         :: edit(2)

@@ -5,8 +5,8 @@ use Rattle.std.specs.Option.{option_or}
 use Rattle.annexb.specs.NalUnit.{is_slice, nal_unit_type}
 use Rattle.annexb.proofs.Readings.{HasUnits-joined}
 use Rattle.access_unit.specs.Answers.{IsShortText}
-use Rattle.access_unit.specs.Keeping.{IsKeptOf}
-use Rattle.access_unit.specs.declared.kept.Kept.TheVariants.{Lone}
+use Rattle.access_unit.specs.UnitContents.{IsContentOf}
+use Rattle.access_unit.specs.declared.content.UnitContent.TheVariants.{OneSlice}
 use Rattle.access_unit.specs.declared.refused.Refused.{Refused}
 use Rattle.access_unit.specs.Refusals.{first_shown, header_rows, set_rows, order_rows, refusal_at, refusal_of}
 use Rattle.access_unit.specs.Sets.{sets_of}
@@ -50,9 +50,9 @@ module _ (unit : List ℕ) where
     no_sets = rw (types.0, types.1) refl
 
     -- and it is kept as it is
-    pub IsKeptOf-lone : (text : List ℕ) → IsShortText text (unit ∷ []) → refusal_of (unit ∷ []) ≡ None
-        → IsKeptOf (unit ∷ []) (Lone (unit ∷ []))
-    IsKeptOf-lone text of sound = record {
+    pub IsContentOf-only_slice : (text : List ℕ) → IsShortText text (unit ∷ []) → refusal_of (unit ∷ []) ≡ None
+        → IsContentOf (unit ∷ []) (OneSlice (unit ∷ []))
+    IsContentOf-only_slice text of sound = record {
       nals_are = refl;
       slices_are = rw slice refl;
       within = omega arith;

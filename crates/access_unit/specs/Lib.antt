@@ -7,7 +7,7 @@ pub mod Refusals
 pub mod Answers
 pub mod Placed
 pub mod Stored
-pub mod Keeping
+pub mod UnitContents
 pub mod Streams
 pub mod Gathered
-pub mod Rooms
+pub mod StreamUnits

@@ -8,28 +8,25 @@
 #![tactic(auto)]
 
 mod checks;
+mod content;
 mod cuts;
 mod joining;
-mod kept;
-mod laws;
-mod lone;
 mod parameter_sets;
 mod parts;
 mod placed;
 mod places;
 mod reading;
 mod refused;
-mod room;
 mod shared_nal;
 mod stream;
+mod stream_units;
 mod unit;
 
-pub use laws::one_answer;
 pub use parameter_sets::ParameterSet;
 pub use places::read_split;
-pub use reading::read_alone;
+pub use reading::{one_answer, read_alone};
 pub use refused::Refused;
-pub use room::{MOST_UNITS, ReadFault, Refusal, read_units};
 pub use shared_nal::SharedNal;
 pub use stream::{StreamRefused, gather, read_shared_stream, read_stream};
+pub use stream_units::{MOST_UNITS, ReadFault, Refusal, read_units};
 pub use unit::{MOST_BYTES, Unit, read_shared, read_unit};

@@ -4,10 +4,11 @@ ghost use Rattle.std.specs.Prelude.{◌≡◌, ◌⊎◌, ℕ, List, All, IfErr,
 ghost use Rattle.std.specs.List.{AllZip};
 ghost use Rattle.annexb.specs.ByteStream.{HasUnits, joined};
 ghost use Rattle.annexb.specs.AccessUnits.{parts_at};
-ghost use Rattle.access_unit.specs.Answers.{IsReadAs as IsUnitReadAs};
+ghost use Rattle.access_unit.specs.Answers.{IsReadAs as IsUnitReadAs, IsAccepted, IsRefused};
 ghost use Rattle.access_unit.specs.Gathered.{HasUnitsAt};
-ghost use Rattle.access_unit.specs.Rooms.{IsReadAs};
+ghost use Rattle.access_unit.specs.StreamUnits.{IsReadAs};
 ghost use Rattle.access_unit.specs.Streams.{IsStreamReadAs};
+ghost use Rattle.access_unit.specs.declared.refused.Refused.{Refused};
 
 use crate::{ReadFault, Refusal, Refused, StreamRefused, Unit, gather, read_shared};
 use annexb::{Nal, SplitFault, cut_units, join, split};
@@ -17,12 +18,12 @@ use std::ops::Range;
 
 /// The access units of a text, where there is room for so many, read one after the other. Memory is
 /// the answer only for a text of NAL units.
-pub fn read_alone(alloc: Global, text: &[u8], room: usize) -> Result<Vec<Unit>, ReadFault>
-    ensures { IsReadAs text.now room result }
+pub fn read_alone(alloc: Global, text: &[u8], limit: usize) -> Result<Vec<Unit>, ReadFault>
+    ensures { IsReadAs text.now limit result }
 {
     let nals = nals_of(alloc, text)?;
     match read_nals(alloc, &nals) {
-        Ok(units) if units.len() <= room => Ok(units),
+        Ok(units) if units.len() <= limit => Ok(units),
         Ok(_) => Err(ReadFault::Refused(Refusal::StreamFull)),
         Err(refused) => Err(ReadFault::from(refused)),
     }
@@ -31,7 +32,7 @@ pub fn read_alone(alloc: Global, text: &[u8], room: usize) -> Result<Vec<Unit>, 
 /// The NAL units of a text, or why there are none.
 fn nals_of(alloc: Global, text: &[u8]) -> Result<Vec<Nal<'_>>, ReadFault>
     ensures ok { IfOk result (λ nals. HasUnits text.now nals.items) }
-    ensures err { IfErr result (λ fault. (room : ℕ) → IsReadAs text.now room (Err fault)) }
+    ensures err { IfErr result (λ fault. (limit : ℕ) → IsReadAs text.now limit (Err fault)) }
 {
     match split(alloc, text) {
         Ok(nals) => Ok(nals),
@@ -76,3 +77,13 @@ fn read_part(alloc: Global, nals: &[Nal<'_>]) -> Result<Result<Unit, Refused>, A
     let text = Bytes::from_vec(join(alloc, nals)?)?;
     Ok(read_shared(alloc, &text))
 }
+
+/// A text is one access unit, or refused in one way.
+pub fn one_answer()
+    ensures accepted { (text : List ℕ) (units others : List (List ℕ))
+        → IsAccepted text units → IsAccepted text others → units ≡ others }
+    ensures not_refused { (text : List ℕ) (units : List (List ℕ)) (refused : Refused)
+        → IsAccepted text units → ¬ IsRefused text refused }
+    ensures refused { (text : List ℕ) (refused other : Refused)
+        → IsRefused text refused → IsRefused text other → refused ≡ other }
+{}

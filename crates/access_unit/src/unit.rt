@@ -9,9 +9,8 @@ ghost use Rattle.access_unit.specs.Answers.{IsSplit, IsShortText, IsAccepted, Is
 ghost use Rattle.access_unit.specs.declared.refused.Refused.TheVariants.{Memory};
 ghost use Rattle.access_unit.specs.Stored.{IsShown, units_in};
 
+use crate::content::{UnitContent, content_of, content_of_slice};
 use crate::cuts::cut_next;
-use crate::kept::{Kept, keep};
-use crate::lone::keep_lone;
 use crate::parameter_sets::ParameterSet;
 use crate::parts::Parts;
 use crate::refused::Refused;
@@ -28,25 +27,25 @@ pub const MOST_BYTES: usize = 4_194_304;
 /// among them. It owns their bytes once. Clauses see the bytes of the NAL units.
 #[derive(Debug)]
 pub struct Unit {
-    kept: Kept,
+    content: UnitContent,
 }
 
 // By hand, so that whoever drops one is proved over one call.
 impl Drop for Unit {
     fn drop(self) {
-        let Unit { kept: _ } = self;
+        let Unit { content: _ } = self;
     }
 }
 
 impl Model for Unit {
     ghost use Rattle.std.specs.Prelude.{ℕ, List};
-    ghost use Rattle.access_unit.specs.Keeping.{IsKeptOf, nals_in};
+    ghost use Rattle.access_unit.specs.UnitContents.{IsContentOf, nals_in};
 
     ghost Value = { List (List ℕ) };
 
-    ghost view = { λ unit. nals_in unit.kept };
+    ghost view = { λ unit. nals_in unit.content };
 
-    ghost invariant = { λ unit. IsKeptOf (nals_in unit.kept) unit.kept };
+    ghost invariant = { λ unit. IsContentOf (nals_in unit.content) unit.content };
 }
 
 impl Unit {
@@ -56,7 +55,7 @@ impl Unit {
         // Joined, they are a text that is read as this access unit.
         ensures accepted { IsAccepted (joined self.now) self.now }
     {
-        self.kept.nals()
+        self.content.nals()
     }
 
     /// The text of the NAL units joined, which is read as this access unit. It shares the bytes of
@@ -66,7 +65,7 @@ impl Unit {
         ensures value { IfOk result (λ text. text ≡ joined self.now) }
         ensures accepted { IsAccepted (joined self.now) self.now }
     {
-        match (self.kept.text(), self.nals()) {
+        match (self.content.text(), self.nals()) {
             (Some(text), _) => text.clone(),
             (None, [nal]) => nal.coded(),
             (None, nals) => join_shared(alloc, nals),
@@ -77,14 +76,14 @@ impl Unit {
     pub fn slices(&self) -> &[SharedNal]
         ensures { result.now ≡ filter is_slice self.now }
     {
-        self.kept.slices()
+        self.content.slices()
     }
 
     /// The parameter sets among the NAL units, in order.
     pub fn sets(&self) -> &[ParameterSet]
         ensures { result.now ≡ sets_of self.now }
     {
-        self.kept.sets()
+        self.content.sets()
     }
 }
 
@@ -153,7 +152,7 @@ pub(crate) fn unit_of(alloc: Global, text: Bytes, nals: &[Nal<'_>]) -> Result<Un
 {
     match nals {
         [nal] if nal.is_slice() => Ok(Unit {
-            kept: keep_lone(text, nal)?,
+            content: content_of_slice(text, nal)?,
         }),
         _ => unit_of_parts(alloc, text, nals),
     }
@@ -171,7 +170,7 @@ fn unit_of_parts(alloc: Global, mut text: Bytes, nals: &[Nal<'_>]) -> Result<Uni
         parts.add(alloc, coded)?;
     }
     Ok(Unit {
-        kept: keep(alloc, parts, None)?,
+        content: content_of(alloc, parts, None)?,
     })
 }
 
@@ -192,7 +191,7 @@ pub(crate) fn unit_with(
         parts.add(alloc, nal.clone()?)?;
     }
     Ok(Unit {
-        kept: keep(alloc, parts, text)?,
+        content: content_of(alloc, parts, text)?,
     })
 }
 

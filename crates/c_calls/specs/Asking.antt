@@ -15,8 +15,8 @@ abbrev pub id_at : Stream → ℕ → Result ℕ ℕ
 id_at stream place = found_or no_such_place (slice_get (ids_of stream) place)
 
 -- the place of the unit of the id
-abbrev pub place_told : Stream → ℕ → Result ℕ ℕ
-place_told stream id = found_or no_such_unit (place_of stream id)
+abbrev pub place_answer : Stream → ℕ → Result ℕ ℕ
+place_answer stream id = found_or no_such_unit (place_of stream id)
 
 -- what only a valid unit has
 abbrev pub of_valid : {A : Type 0} → Option (Option A) → Result A ℕ
@@ -25,8 +25,8 @@ of_valid (Some None) = Err not_valid
 of_valid None = Err no_such_unit
 
 -- the position of the unit of the id in output order
-abbrev pub position_told : Stream → ℕ → Result ℕ ℕ
-position_told stream id = of_valid (position_in stream id)
+abbrev pub position_answer : Stream → ℕ → Result ℕ ℕ
+position_answer stream id = of_valid (position_in stream id)
 
 -- what is told of a unit of this kind that has no plan
 abbrev pub without_plan : ℕ → ℕ → UnitOutcome
@@ -42,8 +42,8 @@ without_plan kind fault = record {
 
 -- a unit's outcome, as it is told: of a fault its number, of a plan its counts and how many slices
 -- there are
-abbrev pub told_outcome : Outcome → UnitOutcome
-told_outcome (outcomes.Plan plan) = record {
+abbrev pub as_unit_outcome : Outcome → UnitOutcome
+as_unit_outcome (outcomes.Plan plan) = record {
   kind = 0;
   fault = 0;
   top = plan.counts.top;
@@ -52,9 +52,9 @@ told_outcome (outcomes.Plan plan) = record {
   begins_period = flag plan.begins_period;
   slices = length plan.requests;
 }
-told_outcome (outcomes.Fault fault) = without_plan 1 (number_of fault)
-told_outcome outcomes.Empty = without_plan 2 0
+as_unit_outcome (outcomes.Fault fault) = without_plan 1 (number_of fault)
+as_unit_outcome outcomes.Empty = without_plan 2 0
 
 -- the outcome of the unit of the id
-abbrev pub outcome_told : Stream → ℕ → Result UnitOutcome ℕ
-outcome_told stream id = found_or no_such_unit (option_map told_outcome (outcome_in stream id))
+abbrev pub outcome_answer : Stream → ℕ → Result UnitOutcome ℕ
+outcome_answer stream id = found_or no_such_unit (option_map as_unit_outcome (outcome_in stream id))

@@ -11,8 +11,8 @@ use Rattle.c_calls.specs.Statuses.{memory}
 use Rattle.c_calls.specs.Telling.{Tells}
 
 -- a receipt, as it is told
-abbrev pub told_receipt : Receipt → EditReceipt
-told_receipt receipt = record {
+abbrev pub as_receipt : Receipt → EditReceipt
+as_receipt receipt = record {
   number = receipt.number;
   steps = receipt.steps;
   hashed = receipt.hashed;
@@ -22,9 +22,9 @@ told_receipt receipt = record {
 }
 
 -- an answer to an edit, as it is told: its receipt, or the number of its refusal
-abbrev pub told_edit : Result Receipt EditRefused → Result EditReceipt ℕ
-told_edit (Ok receipt) = Ok (told_receipt receipt)
-told_edit (Err refused) = Err (number_of refused)
+abbrev pub as_edit_receipt : Result Receipt EditRefused → Result EditReceipt ℕ
+as_edit_receipt (Ok receipt) = Ok (as_receipt receipt)
+as_edit_receipt (Err refused) = Err (number_of refused)
 
 -- the edit has its answer, and no surface comes or goes: what is neither held nor cached any more is
 -- released
@@ -33,15 +33,15 @@ MakesEdit old edit answer new = AnswersEdit old edit answer new × KeepsPictures
 
 -- the edit has its answer, and this is told
 abbrev pub EditsBy : Machine → Edit → ℕ → EditReceipt → EditReceipt → Machine → Type 0
-EditsBy old edit status told tells new =
+EditsBy old edit status before after new =
     (answer : Result Receipt EditRefused) × MakesEdit old edit answer new
-    × Tells (told_edit answer) status told tells
+    × Tells (as_edit_receipt answer) status before after
 
 -- memory was refused before the session was reached: nothing changes
 abbrev pub IsWanting : {A : Type 0} → Machine → ℕ → A → A → Machine → Type 0
-IsWanting old status told tells new = (status ≡ memory) × (tells ≡ told) × (new ≡ old)
+IsWanting old status before after new = (status ≡ memory) × (after ≡ before) × (new ≡ old)
 
 -- an edit whose text is copied first, which may run out of memory whatever the text is
 abbrev pub EditsByCopy : Machine → Edit → ℕ → EditReceipt → EditReceipt → Machine → Type 0
-EditsByCopy old edit status told tells new =
-    EditsBy old edit status told tells new ⊎ IsWanting old status told tells new
+EditsByCopy old edit status before after new =
+    EditsBy old edit status before after new ⊎ IsWanting old status before after new

@@ -13,7 +13,7 @@ use Rattle.frame_requests.specs.FrameRequests.{frame_request}
 use Rattle.frame_requests.specs.FrameControlsLayout.{frame_controls_layout}
 use Rattle.stream_session.specs.Streams.{outcome_in}
 use Rattle.stream_session.specs.Taken.{input_of}
-use Rattle.c_calls.specs.declared.frames.FrameTold.{FrameTold}
+use Rattle.c_calls.specs.declared.frames.PictureRequest.{PictureRequest}
 use Rattle.c_calls.specs.Filling.{Fills}
 use Rattle.c_calls.specs.Machines.{InputValue, Machine}
 use Rattle.c_calls.specs.Statuses.{memory, no_such_job, no_such_slice, no_such_unit, not_valid, several_slices}
@@ -40,8 +40,8 @@ abbrev pub slices_of_job : Machine → ℕ → Result (List Request) ℕ
 slices_of_job machine number = slices_among (input_of machine number)
 
 -- the request of the picture of these slices, as it is told
-abbrev pub told_frame : List Request → FrameRequest → FrameTold
-told_frame slices frame = record {
+abbrev pub as_picture_request : List Request → FrameRequest → PictureRequest
+as_picture_request slices frame = record {
   timestamp = frame.timestamp;
   bytes = frame_size slices;
   slices = length slices;
@@ -52,14 +52,14 @@ told_frame slices frame = record {
 }
 
 -- what is told of slices: each picture has one at least
-abbrev pub frame_told : Result (List Request) ℕ → Result FrameTold ℕ
-frame_told (Ok slices) = found_or no_such_slice (option_map (told_frame slices) (frame_request slices))
-frame_told (Err why) = Err why
+abbrev pub frame_answer : Result (List Request) ℕ → Result PictureRequest ℕ
+frame_answer (Ok slices) = found_or no_such_slice (option_map (as_picture_request slices) (frame_request slices))
+frame_answer (Err why) = Err why
 
 -- the request of their picture is told, or memory is refused
-abbrev pub TellsFrame : Result (List Request) ℕ → ℕ → FrameTold → FrameTold → Type 0
-TellsFrame slices status told tells =
-    Tells (frame_told slices) status told tells ⊎ ((status ≡ memory) × (tells ≡ told))
+abbrev pub TellsFrame : Result (List Request) ℕ → ℕ → PictureRequest → PictureRequest → Type 0
+TellsFrame slices status before after =
+    Tells (frame_answer slices) status before after ⊎ ((status ≡ memory) × (after ≡ before))
 
 -- with start codes or without
 abbrev pub start_code_of : Bool → StartCode

@@ -3,7 +3,7 @@ use Rattle.std.specs.Prelude.{◌≡◌, ◌==◌, ◌<◌, ◌≤◌, ◌+◌, 
 use Rattle.std.specs.Option.{option_map}
 use Rattle.stream_edits.specs.declared.edits.Edit.{Edit}
 use Rattle.stream_edits.specs.declared.edits.Edit.TheVariants.{Delete, Insert, Replace}
-use Rattle.stream_edits.specs.declared.edits.Place.TheVariants.{After, First}
+use Rattle.stream_edits.specs.declared.edits.InsertionPoint.TheVariants.{After, First}
 use Rattle.stream_edits.specs.declared.receipts.GroupReceipt.{GroupReceipt}
 use Rattle.stream_edits.specs.declared.group_refused.GroupRefused.{GroupRefused}
 use Rattle.stream_edits.specs.declared.group_refused.GroupRefused.TheVariants as groups
@@ -13,16 +13,16 @@ use Rattle.stream_edits.specs.Numbers.{number_of}
 use Rattle.c_calls.specs.Machines.{Machine}
 use Rattle.stream_session.specs.Grouping.{AnswersGroup}
 use Rattle.stream_session.specs.Machines.{KeepsPictures}
-use Rattle.c_calls.specs.declared.grouping.EditAsked.{EditAsked}
-use Rattle.c_calls.specs.declared.grouping.GroupTold.{GroupTold}
+use Rattle.c_calls.specs.declared.grouping.GivenEdit.{GivenEdit}
+use Rattle.c_calls.specs.declared.grouping.EditsReceipt.{EditsReceipt}
 use Rattle.c_calls.specs.Editing.{IsWanting}
 use Rattle.c_calls.specs.Statuses.{done, not_an_edit, too_small}
 
 -- the text of an edit that is asked for, where it lies within the bytes
-abbrev pub text_in : List ℕ → EditAsked → Option (List ℕ)
-text_in texts asked =
-    if nat_lt (length texts) (asked.from + asked.count) then None
-    else Some (slice_range texts asked.from (asked.from + asked.count))
+abbrev pub text_in : List ℕ → GivenEdit → Option (List ℕ)
+text_in texts given =
+    if nat_lt (length texts) (given.from + given.count) then None
+    else Some (slice_range texts given.from (given.from + given.count))
 
 -- the edit of a kind, about the unit of the id, with the text, if it needs one
 abbrev pub edit_of_kind : ℕ → ℕ → Option (List ℕ) → Option Edit
@@ -34,26 +34,26 @@ edit_of_kind kind id text =
     else None
 
 -- the edit that is asked for, if it is one
-abbrev pub asked_edit : List ℕ → EditAsked → Option Edit
-asked_edit texts asked = edit_of_kind asked.kind asked.id (text_in texts asked)
+abbrev pub given_edit : List ℕ → GivenEdit → Option Edit
+given_edit texts given = edit_of_kind given.kind given.id (text_in texts given)
 
 -- these edits are asked for
-abbrev pub AreAsked : List ℕ → List EditAsked → List Edit → Type 0
-AreAsked texts asked edits = map (asked_edit texts) asked ≡ map Some edits
+abbrev pub AreGiven : List ℕ → List GivenEdit → List Edit → Type 0
+AreGiven texts given edits = map (given_edit texts) given ≡ map Some edits
 
 -- what is asked for at the index is the first that is no edit
-abbrev pub IsNoEdit : List ℕ → List EditAsked → ℕ → Type 0
-IsNoEdit texts asked index =
-    ((edits : List Edit) × AreAsked texts (take index asked) edits)
-    × (option_map (asked_edit texts) (slice_get asked index) ≡ Some None)
+abbrev pub IsNoEdit : List ℕ → List GivenEdit → ℕ → Type 0
+IsNoEdit texts given index =
+    ((edits : List Edit) × AreGiven texts (take index given) edits)
+    × (option_map (given_edit texts) (slice_get given index) ≡ Some None)
 
 -- what is told, and behind it what was there
 abbrev pub filled : {T : Type 0} → List T → List T → List T
-filled told was = told ++ drop (length told) was
+filled before was = before ++ drop (length before) was
 
 -- what is told of a group that was made
-abbrev pub told_group : GroupReceipt → GroupTold
-told_group receipt = record {
+abbrev pub as_edits_receipt : GroupReceipt → EditsReceipt
+as_edits_receipt receipt = record {
   number = receipt.number;
   steps = receipt.steps;
   hashed = receipt.hashed;
@@ -63,15 +63,15 @@ told_group receipt = record {
 }
 
 -- what is told of a group whose edit at the index is why it isn't made
-abbrev pub told_at : ℕ → GroupTold
-told_at index =
+abbrev pub refused_at : ℕ → EditsReceipt
+refused_at index =
     record { number = 0; steps = 0; hashed = 0; changed_from = 0; changed_count = 0; index = index }
 
 -- the ids and the rest that are told of an answer to a group
-abbrev pub TellsGroup : Result GroupReceipt GroupRefused → ℕ → List ℕ × GroupTold → List ℕ × GroupTold → Type 0
-TellsGroup (Ok receipt) status old new = (status ≡ done) × (new ≡ (filled receipt.ids.items old.0, told_group receipt))
+abbrev pub TellsGroup : Result GroupReceipt GroupRefused → ℕ → List ℕ × EditsReceipt → List ℕ × EditsReceipt → Type 0
+TellsGroup (Ok receipt) status old new = (status ≡ done) × (new ≡ (filled receipt.ids.items old.0, as_edits_receipt receipt))
 TellsGroup (Err (groups.Edit index refused)) status old new =
-    (status ≡ number_of refused) × (new ≡ (old.0, told_at index))
+    (status ≡ number_of refused) × (new ≡ (old.0, refused_at index))
 TellsGroup (Err refused) status old new = (status ≡ number_of_group refused) × (new ≡ old)
 
 -- the group has its answer, is accepted only where it isn't too large, and no surface comes or goes
@@ -80,20 +80,20 @@ MakesGroup old edits answer new =
     AnswersGroup old edits answer new × KeepsPictures old new × IfOk answer (λ _. length edits ≤ most_edits)
 
 -- the group has its answer, and this is told
-abbrev pub GroupsBy : Machine → List Edit → ℕ → List ℕ × GroupTold → List ℕ × GroupTold → Machine → Type 0
-GroupsBy old edits status told tells new =
-    (answer : Result GroupReceipt GroupRefused) × MakesGroup old edits answer new × TellsGroup answer status told tells
+abbrev pub GroupsBy : Machine → List Edit → ℕ → List ℕ × EditsReceipt → List ℕ × EditsReceipt → Machine → Type 0
+GroupsBy old edits status before after new =
+    (answer : Result GroupReceipt GroupRefused) × MakesGroup old edits answer new × TellsGroup answer status before after
 
 -- the edits that are asked for are made together, or refused; or one of them is no edit; or memory
 -- is refused before the session is reached
-abbrev pub GroupsAsked : Machine → List ℕ → List EditAsked → ℕ → List ℕ × GroupTold → List ℕ × GroupTold → Machine → Type 0
-GroupsAsked old texts asked status told tells new =
-    ((edits : List Edit) × AreAsked texts asked edits × GroupsBy old edits status told tells new)
-    ⊎ ((index : ℕ) × IsNoEdit texts asked index × (status ≡ not_an_edit) × (tells ≡ (told.0, told_at index)) × (new ≡ old))
-    ⊎ IsWanting old status told tells new
+abbrev pub GroupsGiven : Machine → List ℕ → List GivenEdit → ℕ → List ℕ × EditsReceipt → List ℕ × EditsReceipt → Machine → Type 0
+GroupsGiven old texts given status before after new =
+    ((edits : List Edit) × AreGiven texts given edits × GroupsBy old edits status before after new)
+    ⊎ ((index : ℕ) × IsNoEdit texts given index × (status ≡ not_an_edit) × (after ≡ (before.0, refused_at index)) × (new ≡ old))
+    ⊎ IsWanting old status before after new
 
 -- there is too little room for the ids, or the group is made or not as it is asked for
-abbrev pub GroupsTo : Machine → List ℕ → List EditAsked → ℕ → List ℕ × GroupTold → List ℕ × GroupTold → Machine → Type 0
-GroupsTo old texts asked status told tells new =
-    ((length told.0 < length asked) × (status ≡ too_small) × (tells ≡ told) × (new ≡ old))
-    ⊎ ((length asked ≤ length told.0) × GroupsAsked old texts asked status told tells new)
+abbrev pub GroupsTo : Machine → List ℕ → List GivenEdit → ℕ → List ℕ × EditsReceipt → List ℕ × EditsReceipt → Machine → Type 0
+GroupsTo old texts given status before after new =
+    ((length before.0 < length given) × (status ≡ too_small) × (after ≡ before) × (new ≡ old))
+    ⊎ ((length given ≤ length before.0) × GroupsGiven old texts given status before after new)

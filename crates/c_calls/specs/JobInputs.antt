@@ -16,20 +16,20 @@ unit_of [] = 0
 unit_of (request ∷ more) = request.timestamp / 1000
 
 -- what a job is made of, as it is told
-abbrev pub told_input : InputValue → JobInput
-told_input input =
+abbrev pub as_job_input : InputValue → JobInput
+as_job_input input =
     record { unit = unit_of input.requests; slices = length input.requests; references = length input.references }
 
 -- that of a job, where it is out
-abbrev pub input_told : Option InputValue → Result JobInput ℕ
-input_told input = found_or no_such_job (option_map told_input input)
+abbrev pub input_answer : Option InputValue → Result JobInput ℕ
+input_answer input = found_or no_such_job (option_map as_job_input input)
 
 -- a reference, as it is told
-abbrev pub told_reference : Reference Surface → JobReference
-told_reference reference = record { timestamp = reference.timestamp; surface = reference.picture.handle }
+abbrev pub as_job_reference : Reference Surface → JobReference
+as_job_reference reference = record { timestamp = reference.timestamp; surface = reference.picture.handle }
 
 -- a reference of a job
-abbrev pub reference_told : Option InputValue → ℕ → Result JobReference ℕ
-reference_told (Some input) index =
-    found_or no_such_place (option_map told_reference (slice_get input.references index))
-reference_told None index = Err no_such_job
+abbrev pub reference_answer : Option InputValue → ℕ → Result JobReference ℕ
+reference_answer (Some input) index =
+    found_or no_such_place (option_map as_job_reference (slice_get input.references index))
+reference_answer None index = Err no_such_job

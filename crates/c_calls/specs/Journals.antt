@@ -3,7 +3,7 @@ use Rattle.std.specs.Prelude.{◌≡◌, ℕ, List, [], length, Result, Ok, Err,
 use Rattle.std.specs.Option.{option_map}
 use Rattle.stream_edits.specs.declared.edits.Edit.{Edit}
 use Rattle.stream_edits.specs.declared.edits.Edit.TheVariants.{Delete, Insert, Replace}
-use Rattle.stream_edits.specs.declared.edits.Place.TheVariants.{After, First}
+use Rattle.stream_edits.specs.declared.edits.InsertionPoint.TheVariants.{After, First}
 use Rattle.c_calls.specs.Machines.{Machine}
 use Rattle.c_calls.specs.declared.journaling.JournalEdit.{JournalEdit}
 use Rattle.c_calls.specs.Filling.{Fills}
@@ -12,11 +12,11 @@ use Rattle.c_calls.specs.Telling.{found_or}
 
 -- an edit, as it is told: its kind, the id that it names, if it names one, and how many bytes its
 -- text has
-abbrev pub told_journal : Edit → JournalEdit
-told_journal (Insert First text) = record { kind = 0; id = 0; bytes = length text }
-told_journal (Insert (After id) text) = record { kind = 1; id = id; bytes = length text }
-told_journal (Delete id) = record { kind = 2; id = id; bytes = 0 }
-told_journal (Replace id text) = record { kind = 3; id = id; bytes = length text }
+abbrev pub as_journal_edit : Edit → JournalEdit
+as_journal_edit (Insert First text) = record { kind = 0; id = 0; bytes = length text }
+as_journal_edit (Insert (After id) text) = record { kind = 1; id = id; bytes = length text }
+as_journal_edit (Delete id) = record { kind = 2; id = id; bytes = 0 }
+as_journal_edit (Replace id text) = record { kind = 3; id = id; bytes = length text }
 
 -- the edit at an index of an entry of the journal
 abbrev pub edit_in : Machine → ℕ → ℕ → Result Edit ℕ

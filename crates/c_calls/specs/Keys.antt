@@ -19,5 +19,5 @@ IsKeyOf machine id (Err why) =
 
 -- 1 is told where some unit has the number, else 0
 abbrev pub TellsUse : List (Option ℕ) → ℕ → ℕ → Type 0
-TellsUse numbers number told =
-    (Contains numbers (Some number) × (told ≡ 1)) ⊎ ((Contains numbers (Some number) → ⊥) × (told ≡ 0))
+TellsUse numbers number before =
+    (Contains numbers (Some number) × (before ≡ 1)) ⊎ ((Contains numbers (Some number) → ⊥) × (before ≡ 0))

@@ -5,7 +5,7 @@ pub mod Filling
 pub mod Doubting
 pub mod Editing
 pub mod Grouping
-pub mod AskedFaults
+pub mod GivenFaults
 pub mod Loading
 pub mod Marking
 pub mod Mending

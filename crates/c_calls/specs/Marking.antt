@@ -10,6 +10,6 @@ abbrev pub MarksTo : Machine → ℕ → Machine → Type 0
 MarksTo old status new = ((status ≡ done) × (new ≡ with_mark old)) ⊎ ((status ≡ memory) × (new ≡ old))
 
 -- 1 or 0 is told of the unit of the id, or that it isn't there
-abbrev pub IsAlteredTold : Machine → ℕ → Result ℕ ℕ → Type 0
-IsAlteredTold machine id (Ok told) = (altered : Bool) × (told ≡ flag altered) × AnswersAltered machine id (Some altered)
-IsAlteredTold machine id (Err why) = (why ≡ no_such_unit) × AnswersAltered machine id None
+abbrev pub IsAlteredAnswer : Machine → ℕ → Result ℕ ℕ → Type 0
+IsAlteredAnswer machine id (Ok before) = (altered : Bool) × (before ≡ flag altered) × AnswersAltered machine id (Some altered)
+IsAlteredAnswer machine id (Err why) = (why ≡ no_such_unit) × AnswersAltered machine id None

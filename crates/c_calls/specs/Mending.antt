@@ -1,10 +1,10 @@
 -- What is told of a text that is mended.
 use Rattle.std.specs.Prelude.{◌≡◌, ◌⊎◌, ℕ, List, length, map, take}
-use Rattle.stream_mending.specs.Mended.{mended, told as told_of}
+use Rattle.stream_mending.specs.Mended.{mended, told as left_out_of}
 use Rattle.stream_mending.specs.declared.why.LeftOut.{LeftOut}
 use Rattle.stream_mending.specs.declared.why.Why.{Why}
 use Rattle.stream_mending.specs.declared.why.Why.TheVariants.{NotNalUnit, Empty, ForbiddenBytes, ForbiddenBit, UnitType, UnreadSps, UnreadPps, Switching, IdrNotIntra, IdrNotReference, TooLarge}
-use Rattle.c_calls.specs.declared.mending.LeftOutTold.{LeftOutTold}
+use Rattle.c_calls.specs.declared.mending.LeftOutBytes.{LeftOutBytes}
 use Rattle.c_calls.specs.Filling.{Fills}
 use Rattle.c_calls.specs.Grouping.{filled}
 use Rattle.c_calls.specs.Statuses.{memory}
@@ -29,8 +29,8 @@ type_of_why (UnitType number) = number
 type_of_why why = 0
 
 -- what is left out, as it is told
-abbrev pub told_left_out : LeftOut → LeftOutTold
-told_left_out left_out = record {
+abbrev pub as_left_out_bytes : LeftOut → LeftOutBytes
+as_left_out_bytes left_out = record {
   byte = left_out.byte;
   bytes = left_out.bytes;
   why = number_of_why left_out.why;
@@ -39,13 +39,13 @@ told_left_out left_out = record {
 
 -- what stays of a text is written if there is room for it; what is left out is told, as much as there is
 -- room for, and how often that is
-pub record Mends (text : List ℕ) (status : ℕ) (old new : List ℕ) (needed : ℕ) (was tells : List LeftOutTold) (count : ℕ) : Type 0 where
+pub record Mends (text : List ℕ) (status : ℕ) (old new : List ℕ) (needed : ℕ) (was after : List LeftOutBytes) (count : ℕ) : Type 0 where
   pub filled_is : Fills (mended text) status old new needed
-  pub told_are : tells ≡ filled (map told_left_out (take (length was) (told_of text))) was
-  pub count_is : count ≡ length (told_of text)
+  pub left_out_are : after ≡ filled (map as_left_out_bytes (take (length was) (left_out_of text))) was
+  pub count_is : count ≡ length (left_out_of text)
 
 -- a text is mended; or memory is refused, and all stays as it was
-abbrev pub MendsTo : List ℕ → ℕ → List ℕ → List ℕ → ℕ → ℕ → List LeftOutTold → List LeftOutTold → ℕ → ℕ → Type 0
-MendsTo text status old new need needed was tells counted count =
-    Mends text status old new needed was tells count
-    ⊎ ((status ≡ memory) × (new ≡ old) × (needed ≡ need) × (tells ≡ was) × (count ≡ counted))
+abbrev pub MendsTo : List ℕ → ℕ → List ℕ → List ℕ → ℕ → ℕ → List LeftOutBytes → List LeftOutBytes → ℕ → ℕ → Type 0
+MendsTo text status old new need needed was after counted count =
+    Mends text status old new needed was after count
+    ⊎ ((status ≡ memory) × (new ≡ old) × (needed ≡ need) × (after ≡ was) × (count ≡ counted))

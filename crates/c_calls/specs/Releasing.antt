@@ -16,21 +16,21 @@ abbrev pub handle_of : Surface → ℕ
 handle_of surface = surface.handle
 
 -- the surface that is dropped, or why none is
-abbrev pub told_dropped : Dropped Surface → Result ℕ ℕ
-told_dropped (dropped.Picture surface) = Ok surface.handle
-told_dropped dropped.NotHeld = Err not_held
-told_dropped dropped.NoSuchUnit = Err no_such_unit
+abbrev pub as_dropped : Dropped Surface → Result ℕ ℕ
+as_dropped (dropped.Picture surface) = Ok surface.handle
+as_dropped dropped.NotHeld = Err not_held
+as_dropped dropped.NoSuchUnit = Err no_such_unit
 
 -- the surface of the unit of the id goes back, or it is said why not
 abbrev pub DropsTo : Machine → ℕ → ℕ → ℕ → ℕ → Machine → Type 0
-DropsTo old id status told tells new =
-    (answer : Dropped Surface) × AnswersDrop IsPicture old id answer new × Tells (told_dropped answer) status told tells
+DropsTo old id status before after new =
+    (answer : Dropped Surface) × AnswersDrop IsPicture old id answer new × Tells (as_dropped answer) status before after
 
 -- the surface that was cached first goes back, or none is cached
 abbrev pub UncachesTo : Machine → ℕ → ℕ → ℕ → Machine → Type 0
-UncachesTo old status told tells new =
+UncachesTo old status before after new =
     (answer : Option Surface) × AnswersUncache IsPicture old answer new
-    × Tells (found_or not_held (option_map handle_of answer)) status told tells
+    × Tells (found_or not_held (option_map handle_of answer)) status before after
 
 -- these surfaces go back: what was released is, as a bag, they and what is released then; no job
 -- that is out refers to one of them; nothing else changes
@@ -46,10 +46,10 @@ IsNoneLeft machine = All (λ surface. IsUnreferred machine.jobs_out surface → 
 -- as many surfaces go back as there is room for, or all that can; they are told at the start of the
 -- room, and how many they are
 abbrev pub GoBack : Machine → List ℕ → ℕ → List ℕ → Machine → Type 0
-GoBack old told count tells new =
-    (surfaces : List Surface) × Release old surfaces new × (count ≡ length surfaces) × (count ≤ length told)
-    × ((count ≡ length told) ⊎ IsNoneLeft new) × (tells ≡ filled (map handle_of surfaces) told)
+GoBack old before count after new =
+    (surfaces : List Surface) × Release old surfaces new × (count ≡ length surfaces) × (count ≤ length before)
+    × ((count ≡ length before) ⊎ IsNoneLeft new) × (after ≡ filled (map handle_of surfaces) before)
 
 -- so it is, with this status
 abbrev pub ReleasesTo : Machine → ℕ → List ℕ → List ℕ → ℕ → Machine → Type 0
-ReleasesTo old status told tells count new = (status ≡ done) × GoBack old told count tells new
+ReleasesTo old status before after count new = (status ≡ done) × GoBack old before count after new

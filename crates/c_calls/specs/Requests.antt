@@ -11,7 +11,7 @@ use Rattle.frame_requests.specs.ScalingMatrixLayout.{scaling_matrix_layout}
 use Rattle.frame_requests.specs.PredWeightsLayout.{pred_weights_layout}
 use Rattle.frame_requests.specs.SliceParamsLayout.{slice_params_layout}
 use Rattle.frame_requests.specs.DecodeParamsLayout.{decode_params_layout}
-use Rattle.frame_requests.specs.declared.layouts.pred_weights.PredWeights.{PredWeights}
+use Rattle.frame_requests.specs.declared.layouts.pred_weights.PredWeightsLayout.{PredWeightsLayout}
 use Rattle.c_calls.specs.Machines.{InputValue, Machine}
 use Rattle.stream_session.specs.Streams.{outcome_in}
 use Rattle.stream_session.specs.Taken.{input_of}
@@ -44,28 +44,28 @@ request_of_job machine number slice = request_among (input_of machine number) sl
 abbrev pub request_layout : Request → SliceRequest
 request_layout request = record {
   timestamp = request.timestamp;
-  bytes = length request.work.bytes;
+  bytes = length request.body.bytes;
   unit_begins = 3;
   hold = flag request.hold;
-  has_weights = flag (is_some request.work.controls.pred_weights);
-  pps = pps_layout request.work.controls.sets.pps;
-  sps = sps_layout request.work.controls.sets.sps;
-  scaling_matrix = scaling_matrix_layout request.work.controls.sets.scaling_matrix;
-  slice_params = slice_params_layout request.work.controls.slice_params;
-  decode_params = decode_params_layout request.references request.work.controls.decode_params;
+  has_weights = flag (is_some request.body.controls.pred_weights);
+  pps = pps_layout request.body.controls.sets.pps;
+  sps = sps_layout request.body.controls.sets.sps;
+  scaling_matrix = scaling_matrix_layout request.body.controls.sets.scaling_matrix;
+  slice_params = slice_params_layout request.body.controls.slice_params;
+  decode_params = decode_params_layout request.references request.body.controls.decode_params;
 }
 
 -- what is found, told so
-abbrev pub told_as : {A B : Type 0} → (A → B) → Result A ℕ → Result B ℕ
-told_as form (Ok value) = Ok (form value)
-told_as form (Err why) = Err why
+abbrev pub laid_out : {A B : Type 0} → (A → B) → Result A ℕ → Result B ℕ
+laid_out form (Ok value) = Ok (form value)
+laid_out form (Err why) = Err why
 
 -- the weight table of a request
-abbrev pub weights_of : Result Request ℕ → Result PredWeights ℕ
-weights_of (Ok request) = found_or no_weights (option_map pred_weights_layout request.work.controls.pred_weights)
+abbrev pub weights_of : Result Request ℕ → Result PredWeightsLayout ℕ
+weights_of (Ok request) = found_or no_weights (option_map pred_weights_layout request.body.controls.pred_weights)
 weights_of (Err why) = Err why
 
 -- the bytes of a request are written into a buffer
 abbrev pub FillsFrom : Result Request ℕ → ℕ → List ℕ → List ℕ → ℕ → ℕ → Type 0
-FillsFrom (Ok request) status old new was needed = Fills request.work.bytes status old new needed
+FillsFrom (Ok request) status old new was needed = Fills request.body.bytes status old new needed
 FillsFrom (Err why) status old new was needed = (status ≡ why) × (new ≡ old) × (needed ≡ was)

@@ -9,14 +9,14 @@ use Rattle.c_calls.specs.Statuses.{has_fault, no_picture, no_such_unit, pending}
 use Rattle.c_calls.specs.Telling.{Tells}
 
 -- the surface that is shown, or why none is
-abbrev pub told_shown : Shown Surface → Result ℕ ℕ
-told_shown (shown.Ready surface) = Ok surface.handle
-told_shown shown.Pending = Err pending
-told_shown (shown.Fault fault) = Err has_fault
-told_shown shown.Empty = Err no_picture
-told_shown shown.NoSuchUnit = Err no_such_unit
+abbrev pub as_shown : Shown Surface → Result ℕ ℕ
+as_shown (shown.Ready surface) = Ok surface.handle
+as_shown shown.Pending = Err pending
+as_shown (shown.Fault fault) = Err has_fault
+as_shown shown.Empty = Err no_picture
+as_shown shown.NoSuchUnit = Err no_such_unit
 
 -- what is shown of the unit of the id is told
 abbrev pub ShowsTo : Machine → ℕ → ℕ → ℕ → ℕ → Type 0
-ShowsTo machine id status told tells =
-    (shows : Shown Surface) × Shows IsPicture machine id shows × Tells (told_shown shows) status told tells
+ShowsTo machine id status before after =
+    (shows : Shown Surface) × Shows IsPicture machine id shows × Tells (as_shown shows) status before after

@@ -1,14 +1,18 @@
 //! Questions about the stream.
 
 ghost use Rattle.std.specs.Prelude.{◌≡◌, length};
-ghost use Rattle.c_calls.specs.Asking.{id_at, outcome_told, place_told, position_told, told_outcome, without_plan};
+ghost use Rattle.c_calls.specs.Asking.{id_at, outcome_answer, place_answer, position_answer, as_unit_outcome, without_plan};
 ghost use Rattle.c_calls.specs.Statuses.{done};
 ghost use Rattle.c_calls.specs.Telling.{Tells};
+ghost use Rattle.c_calls.specs.Showing.{ShowsTo};
 
-use crate::statuses::{DONE, NO_SUCH_PLACE, NO_SUCH_UNIT, NOT_VALID};
+use crate::statuses::{
+    DONE, HAS_FAULT, NO_PICTURE, NO_SUCH_PLACE, NO_SUCH_UNIT, NOT_VALID, PENDING,
+};
 use crate::surface_session::SurfaceSession;
 use crate::telling::tell;
 use h264_types::pictures::AuId;
+use stream_session::Shown;
 use unit_outcomes::Outcome;
 
 /// The kind of a unit that has a plan.
@@ -57,7 +61,7 @@ pub fn id_at(session: &SurfaceSession, place: usize, id: &mut u32) -> u32
 
 /// The place of the unit of the id.
 pub fn place(session: &SurfaceSession, id: u32, place: &mut usize) -> u32
-    ensures { Tells (place_told session.now.register.stream id) result place.old place.new }
+    ensures { Tells (place_answer session.now.register.stream id) result place.old place.new }
 {
     match session.inner.place(AuId::new(id)) {
         Some(found) => tell(Ok(found), place),
@@ -67,7 +71,7 @@ pub fn place(session: &SurfaceSession, id: u32, place: &mut usize) -> u32
 
 /// The position of the unit of the id in output order, from 0 on.
 pub fn position(session: &SurfaceSession, id: u32, position: &mut usize) -> u32
-    ensures { Tells (position_told session.now.register.stream id) result position.old
+    ensures { Tells (position_answer session.now.register.stream id) result position.old
         position.new }
 {
     match session.inner.position(AuId::new(id)) {
@@ -79,17 +83,17 @@ pub fn position(session: &SurfaceSession, id: u32, position: &mut usize) -> u32
 
 /// The outcome of the unit of the id.
 pub fn outcome(session: &SurfaceSession, id: u32, outcome: &mut UnitOutcome) -> u32
-    ensures { Tells (outcome_told session.now.register.stream id) result outcome.old outcome.new }
+    ensures { Tells (outcome_answer session.now.register.stream id) result outcome.old outcome.new }
 {
     match session.inner.outcome(AuId::new(id)) {
-        Ok(found) => tell(Ok(told_outcome(found)), outcome),
+        Ok(found) => tell(Ok(as_unit_outcome(found)), outcome),
         Err(_) => NO_SUCH_UNIT,
     }
 }
 
 /// A unit's outcome, as it is told.
-fn told_outcome(outcome: &Outcome) -> UnitOutcome
-    ensures { result ≡ told_outcome outcome.now }
+fn as_unit_outcome(outcome: &Outcome) -> UnitOutcome
+    ensures { result ≡ as_unit_outcome outcome.now }
 {
     match outcome {
         Outcome::Plan(plan) => UnitOutcome {
@@ -118,5 +122,18 @@ fn without_plan(kind: u32, fault: u32) -> UnitOutcome
         order: 0,
         begins_period: 0,
         slices: 0,
+    }
+}
+
+/// The surface of the unit of the id, as the stream is now.
+pub fn show(session: &SurfaceSession, id: u32, surface: &mut u64) -> u32
+    ensures { ShowsTo session.now id result surface.old surface.new }
+{
+    match session.inner.show(AuId::new(id)) {
+        Shown::Ready(found) => tell(Ok(found.handle), surface),
+        Shown::Pending => PENDING,
+        Shown::Fault(_) => HAS_FAULT,
+        Shown::Empty => NO_PICTURE,
+        Shown::NoSuchUnit => NO_SUCH_UNIT,
     }
 }

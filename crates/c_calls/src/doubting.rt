@@ -1,7 +1,7 @@
 //! Which units follow a damage, and which of them are in doubt.
 
 ghost use Rattle.std.specs.Prelude.{◌≡◌, ◌≤◌, length, map};
-ghost use Rattle.c_calls.specs.Doubting.{TellsDoubts, told_doubt};
+ghost use Rattle.c_calls.specs.Doubting.{TellsDoubts, as_unit_doubt};
 ghost use Rattle.c_calls.specs.Grouping.{filled};
 
 use crate::statuses::{DONE, MEMORY};
@@ -12,7 +12,7 @@ use stream_session::Doubt;
 /// 1 where the unit is in doubt, else 0.
 #[repr(C)]
 #[derive(Clone, Copy, Debug, PartialEq, Eq)]
-pub struct DoubtTold {
+pub struct UnitDoubt {
     pub follows: u32,
     pub in_doubt: u32,
 }
@@ -22,7 +22,7 @@ pub struct DoubtTold {
 pub fn doubts(
     session: &SurfaceSession,
     from: usize,
-    doubts: &mut [DoubtTold],
+    doubts: &mut [UnitDoubt],
     count: &mut usize,
 ) -> u32
     ensures { TellsDoubts session.now.register.stream from result doubts.old doubts.new count.old
@@ -30,11 +30,11 @@ pub fn doubts(
 {
     let units = session.inner.ids().len();
     let first = from.min(units);
-    let told = doubts.len().min(units - first);
-    match session.inner.doubts(first, told) {
+    let taken = doubts.len().min(units - first);
+    match session.inner.doubts(first, taken) {
         Ok(found) => {
             fill_doubts(&found, doubts);
-            *count = told;
+            *count = taken;
             DONE
         }
         Err(_) => MEMORY,
@@ -42,20 +42,20 @@ pub fn doubts(
 }
 
 /// Writes what is told of each unit, at the start of what is there.
-fn fill_doubts(from: &[Doubt], doubts: &mut [DoubtTold])
+fn fill_doubts(from: &[Doubt], doubts: &mut [UnitDoubt])
     requires { length from.now ≤ length doubts.old }
-    ensures { doubts.new ≡ filled (map told_doubt from.now) doubts.old }
+    ensures { doubts.new ≡ filled (map as_unit_doubt from.now) doubts.old }
 {
     for index in 0..from.len() {
-        doubts[index] = told_doubt(from[index]);
+        doubts[index] = as_unit_doubt(from[index]);
     }
 }
 
 /// A unit's doubt, as it is told.
-fn told_doubt(doubt: Doubt) -> DoubtTold
-    ensures { result ≡ told_doubt doubt }
+fn as_unit_doubt(doubt: Doubt) -> UnitDoubt
+    ensures { result ≡ as_unit_doubt doubt }
 {
-    DoubtTold {
+    UnitDoubt {
         follows: match doubt.follows {
             Some(id) => id.number(),
             None => 0,

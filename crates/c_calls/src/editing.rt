@@ -3,7 +3,7 @@
 ghost use Rattle.std.specs.Prelude.{◌≡◌};
 ghost use Rattle.stream_edits.specs.declared.edits.Edit.TheVariants.{Insert, Replace, Delete};
 ghost use Rattle.stream_edits.specs.Streams.{end_of};
-ghost use Rattle.c_calls.specs.Editing.{EditsBy, EditsByCopy, MakesEdit, told_edit};
+ghost use Rattle.c_calls.specs.Editing.{EditsBy, EditsByCopy, MakesEdit, as_edit_receipt};
 
 use crate::statuses::MEMORY;
 use crate::surface_session::SurfaceSession;
@@ -11,7 +11,7 @@ use crate::telling::tell;
 use bytes::Bytes;
 use h264_types::pictures::AuId;
 use std::alloc::Global;
-use stream_edits::{Edit, EditRefused, Place, Receipt};
+use stream_edits::{Edit, EditRefused, InsertionPoint, Receipt};
 
 /// What an accepted edit is told: how many edits and groups were accepted, with this one; how many
 /// steps of the fold it made; how many bytes were hashed for it; the first place of the units that it
@@ -37,7 +37,7 @@ pub fn edit(
     ensures { EditsBy session.old edit result receipt.old receipt.new session.new }
 {
     let answer = answer_to(alloc, session, edit);
-    tell(told_edit(answer), receipt)
+    tell(as_edit_receipt(answer), receipt)
 }
 
 /// What an edit is answered.
@@ -53,8 +53,8 @@ fn answer_to(
 }
 
 /// An answer to an edit, as it is told.
-fn told_edit(answer: Result<Receipt, EditRefused>) -> Result<EditReceipt, u32>
-    ensures { result ≡ told_edit answer }
+fn as_edit_receipt(answer: Result<Receipt, EditRefused>) -> Result<EditReceipt, u32>
+    ensures { result ≡ as_edit_receipt answer }
 {
     match answer {
         Ok(receipt) => Ok(EditReceipt {
@@ -73,7 +73,7 @@ fn told_edit(answer: Result<Receipt, EditRefused>) -> Result<EditReceipt, u32>
 pub fn insert(
     alloc: Global,
     session: &mut SurfaceSession,
-    place: Place,
+    place: InsertionPoint,
     text: &[u8],
     receipt: &mut EditReceipt,
 ) -> u32

@@ -4,15 +4,17 @@ ghost use Rattle.std.specs.Prelude.{◌≡◌, Ok, Err, IfOk, MatchResult};
 ghost use Rattle.std.specs.Option.{option_map};
 ghost use Rattle.frame_requests.specs.FrameBytes.{frame_bytes};
 ghost use Rattle.frame_requests.specs.FrameRequests.{frame_request};
-ghost use Rattle.c_calls.specs.Frames.{FillsFrame, TellsFrame, slices_in, slices_of_job, slices_of_unit, start_code_of, told_frame};
+ghost use Rattle.c_calls.specs.Frames.{FillsFrame, TellsFrame, slices_in, slices_of_job, slices_of_unit, start_code_of, as_picture_request};
 
-use crate::filling::fill;
 use crate::statuses::{
     DONE, MEMORY, NO_SUCH_JOB, NO_SUCH_SLICE, NO_SUCH_UNIT, NOT_VALID, SEVERAL_SLICES,
 };
 use crate::surface_session::SurfaceSession;
+use crate::telling::fill;
 use bytes::Bytes;
-use frame_requests::layouts::{DecodeParams, FrameControls, Pps, ScalingMatrix, Sps};
+use frame_requests::layouts::{
+    DecodeParamsLayout, FrameControlsLayout, PpsLayout, ScalingMatrixLayout, SpsLayout,
+};
 use frame_requests::{FrameRequest, StartCode, frame_bytes, frame_size};
 use h264_controls::Request;
 use h264_types::pictures::AuId;
@@ -23,21 +25,21 @@ use unit_outcomes::Outcome;
 /// the Request API, and what else a decoder is told.
 #[repr(C)]
 #[derive(Clone, Copy)]
-pub struct FrameTold {
+pub struct PictureRequest {
     /// The timestamp of the unit, in nanoseconds.
     pub timestamp: u64,
     /// How many bytes the slices have together, each with a start code of three bytes.
     pub bytes: u64,
     /// How many slices the picture has.
     pub slices: u64,
-    pub sps: Sps,
-    pub pps: Pps,
-    pub scaling_matrix: ScalingMatrix,
-    pub decode_params: DecodeParams,
+    pub sps: SpsLayout,
+    pub pps: PpsLayout,
+    pub scaling_matrix: ScalingMatrixLayout,
+    pub decode_params: DecodeParamsLayout,
 }
 
 /// The request of the picture of the unit of the id, as the stream is now.
-pub fn unit_frame(session: &SurfaceSession, id: u32, frame: &mut FrameTold) -> u32
+pub fn unit_frame(session: &SurfaceSession, id: u32, frame: &mut PictureRequest) -> u32
     ensures { TellsFrame (slices_of_unit session.now id) result frame.old frame.new }
 {
     match slices_of_unit(session, id) {
@@ -47,7 +49,7 @@ pub fn unit_frame(session: &SurfaceSession, id: u32, frame: &mut FrameTold) -> u
 }
 
 /// The request of the picture of the job of the number, as it was when the job was taken.
-pub fn job_frame(session: &SurfaceSession, job: u64, frame: &mut FrameTold) -> u32
+pub fn job_frame(session: &SurfaceSession, job: u64, frame: &mut PictureRequest) -> u32
     ensures { TellsFrame (slices_of_job session.now job) result frame.old frame.new }
 {
     match slices_of_job(session, job) {
@@ -57,12 +59,12 @@ pub fn job_frame(session: &SurfaceSession, job: u64, frame: &mut FrameTold) -> u
 }
 
 /// Tells the request of the picture of these slices.
-fn tell_frame(slices: &[Request], frame: &mut FrameTold) -> u32
+fn tell_frame(slices: &[Request], frame: &mut PictureRequest) -> u32
     ensures { TellsFrame (Ok slices.now) result frame.old frame.new }
 {
-    match told_frame(slices) {
-        Ok(Some(told)) => {
-            *frame = told;
+    match as_picture_request(slices) {
+        Ok(Some(request)) => {
+            *frame = request;
             DONE
         }
         Ok(None) => NO_SUCH_SLICE,
@@ -71,15 +73,15 @@ fn tell_frame(slices: &[Request], frame: &mut FrameTold) -> u32
 }
 
 /// The request of the picture of these slices, as it is told.
-fn told_frame(slices: &[Request]) -> Result<Option<FrameTold>, AllocError>
-    ensures { IfOk result (λ told.
-        told ≡ option_map (told_frame slices.now) (frame_request slices.now)) }
+fn as_picture_request(slices: &[Request]) -> Result<Option<PictureRequest>, AllocError>
+    ensures { IfOk result (λ request.
+        request ≡ option_map (as_picture_request slices.now) (frame_request slices.now)) }
 {
     let bytes = frame_size(slices).ok_or(AllocError)?;
     match FrameRequest::of(slices)? {
         Some(frame) => {
-            let controls = FrameControls::of(&frame);
-            Ok(Some(FrameTold {
+            let controls = FrameControlsLayout::of(&frame);
+            Ok(Some(PictureRequest {
                 timestamp: frame.timestamp,
                 bytes: bytes as u64,
                 slices: slices.len() as u64,

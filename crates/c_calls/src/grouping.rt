@@ -1,9 +1,9 @@
 //! Groups of edits.
 
 ghost use Rattle.std.specs.Prelude.{◌≡◌, ◌≤◌, None, Some, length, IfErr, IfOk, MatchOption};
-ghost use Rattle.c_calls.specs.Grouping.{AreAsked, GroupsBy, GroupsTo, MakesGroup, TellsGroup, asked_edit, filled, text_in, told_at};
-ghost use Rattle.c_calls.specs.AskedFaults.{IsAskedFault};
-ghost use Rattle.c_calls.specs.declared.grouping.AskedFault.TheVariants.{Memory};
+ghost use Rattle.c_calls.specs.Grouping.{AreGiven, GroupsBy, GroupsTo, MakesGroup, TellsGroup, given_edit, filled, text_in, refused_at};
+ghost use Rattle.c_calls.specs.GivenFaults.{IsGivenFault};
+ghost use Rattle.c_calls.specs.declared.grouping.GivenFault.TheVariants.{Memory};
 
 use crate::journaling::{KIND_DELETE, KIND_INSERT_AFTER, KIND_INSERT_FIRST, KIND_REPLACE};
 use crate::statuses::{DONE, MEMORY, NOT_AN_EDIT, TOO_SMALL};
@@ -11,13 +11,13 @@ use crate::surface_session::SurfaceSession;
 use bytes::Bytes;
 use h264_types::pictures::AuId;
 use std::alloc::{AllocError, AllocFailed, Global};
-use stream_edits::{Edit, GroupReceipt, GroupRefused, Place, ReadGroup};
+use stream_edits::{Edit, GroupReceipt, GroupRefused, InsertionPoint, ReadGroup};
 
 /// An edit as a caller asks for it: its kind, the id that it names, and where its text lies among
 /// the bytes of all texts.
 #[repr(C)]
 #[derive(Clone, Copy, Debug, PartialEq, Eq)]
-pub struct EditAsked {
+pub struct GivenEdit {
     pub kind: u32,
     pub id: u32,
     pub from: usize,
@@ -27,7 +27,7 @@ pub struct EditAsked {
 /// What is told of a group beside its ids.
 #[repr(C)]
 #[derive(Clone, Copy, Debug, PartialEq, Eq)]
-pub struct GroupTold {
+pub struct EditsReceipt {
     /// How many edits and groups were accepted, with this one.
     pub number: u64,
     /// How many steps of the fold it made.
@@ -42,26 +42,26 @@ pub struct GroupTold {
 }
 
 /// Why the edits of a group aren't made from what a caller asks for.
-enum AskedFault {
+enum GivenFault {
     /// What is asked for at this index is no edit.
     NotAnEdit { index: usize },
     /// A growth was refused.
     Memory,
 }
 
-impl From<AllocError> for AskedFault {
+impl From<AllocError> for GivenFault {
     ghost from_gives = { λ _ e. e ≡ Memory };
 
-    fn from(_e: AllocError) -> AskedFault {
-        AskedFault::Memory
+    fn from(_e: AllocError) -> GivenFault {
+        GivenFault::Memory
     }
 }
 
-impl<T: Drop> From<AllocFailed<T>> for AskedFault {
+impl<T: Drop> From<AllocFailed<T>> for GivenFault {
     ghost from_gives = { λ _ e. e ≡ Memory };
 
-    fn from(_e: AllocFailed<T>) -> AskedFault {
-        AskedFault::Memory
+    fn from(_e: AllocFailed<T>) -> GivenFault {
+        GivenFault::Memory
     }
 }
 
@@ -69,72 +69,72 @@ impl<T: Drop> From<AllocFailed<T>> for AskedFault {
 pub fn group(
     alloc: Global,
     session: &mut SurfaceSession,
-    asked: &[EditAsked],
+    given: &[GivenEdit],
     texts: &[u8],
     ids: &mut [u32],
-    told: &mut GroupTold,
+    answered: &mut EditsReceipt,
 ) -> u32
-    ensures { GroupsTo session.old texts.now asked.now result (ids.old, told.old) (ids.new, told.new)
+    ensures { GroupsTo session.old texts.now given.now result (ids.old, answered.old) (ids.new, answered.new)
         session.new }
 {
-    if ids.len() < asked.len() {
+    if ids.len() < given.len() {
         return TOO_SMALL;
     }
-    match edits_asked(alloc, texts, asked) {
-        Ok(edits) => make_group(alloc, session, edits, ids, told),
-        Err(AskedFault::NotAnEdit { index }) => {
-            *told = told_at(index);
+    match given_edits(alloc, texts, given) {
+        Ok(edits) => make_group(alloc, session, edits, ids, answered),
+        Err(GivenFault::NotAnEdit { index }) => {
+            *answered = refused_at(index);
             NOT_AN_EDIT
         }
-        Err(AskedFault::Memory) => MEMORY,
+        Err(GivenFault::Memory) => MEMORY,
     }
 }
 
 /// The edits that are asked for, with their texts copied.
-fn edits_asked(alloc: Global, texts: &[u8], asked: &[EditAsked]) -> Result<Vec<Edit>, AskedFault>
-    ensures ok { IfOk result (λ edits. AreAsked texts.now asked.now edits.items) }
-    ensures err { IfErr result (IsAskedFault texts.now asked.now) }
+fn given_edits(alloc: Global, texts: &[u8], given: &[GivenEdit]) -> Result<Vec<Edit>, GivenFault>
+    ensures ok { IfOk result (λ edits. AreGiven texts.now given.now edits.items) }
+    ensures err { IfErr result (IsGivenFault texts.now given.now) }
 {
-    let mut edits = Vec::with_capacity(alloc, asked.len())?;
-    for index in 0..asked.len() {
-        match asked_edit(alloc, texts, asked[index])? {
+    let mut edits = Vec::with_capacity(alloc, given.len())?;
+    for index in 0..given.len() {
+        match given_edit(alloc, texts, given[index])? {
             Some(edit) => edits.push(edit)?,
-            None => return Err(AskedFault::NotAnEdit { index }),
+            None => return Err(GivenFault::NotAnEdit { index }),
         }
     }
     Ok(edits)
 }
 
 /// The edit that is asked for, if it is one.
-fn asked_edit(alloc: Global, texts: &[u8], asked: EditAsked) -> Result<Option<Edit>, AllocError>
-    ensures { IfOk result (λ edit. edit ≡ asked_edit texts.now asked) }
+fn given_edit(alloc: Global, texts: &[u8], given: GivenEdit) -> Result<Option<Edit>, AllocError>
+    ensures { IfOk result (λ edit. edit ≡ given_edit texts.now given) }
 {
-    let id = AuId::new(asked.id);
-    if asked.kind == KIND_DELETE {
+    let id = AuId::new(given.id);
+    if given.kind == KIND_DELETE {
         return Ok(Some(Edit::Delete(id)));
     }
-    let Some(text) = text_in(texts, asked) else {
+    let Some(text) = text_in(texts, given) else {
         return Ok(None);
     };
     let text = Bytes::copy_from_slice(alloc, text)?;
-    Ok(match asked.kind {
-        KIND_INSERT_FIRST => Some(Edit::Insert(Place::First, text)),
-        KIND_INSERT_AFTER => Some(Edit::Insert(Place::After(id), text)),
+    Ok(match given.kind {
+        KIND_INSERT_FIRST => Some(Edit::Insert(InsertionPoint::First, text)),
+        KIND_INSERT_AFTER => Some(Edit::Insert(InsertionPoint::After(id), text)),
         KIND_REPLACE => Some(Edit::Replace(id, text)),
         _ => None,
     })
 }
 
 /// The text of an edit that is asked for, where it lies within the bytes.
-fn text_in(texts: &[u8], asked: EditAsked) -> Option<&[u8]>
+fn text_in(texts: &[u8], given: GivenEdit) -> Option<&[u8]>
     ensures { MatchOption result
-        (text_in texts.now asked ≡ None)
-        (λ text. text_in texts.now asked ≡ Some text.now) }
+        (text_in texts.now given ≡ None)
+        (λ text. text_in texts.now given ≡ Some text.now) }
 {
-    if asked.from > texts.len() || asked.count > texts.len() - asked.from {
+    if given.from > texts.len() || given.count > texts.len() - given.from {
         return None;
     }
-    Some(&texts[asked.from..asked.from + asked.count])
+    Some(&texts[given.from..given.from + given.count])
 }
 
 /// Makes these edits together, and tells the unit's id of each.
@@ -143,14 +143,14 @@ fn make_group(
     session: &mut SurfaceSession,
     edits: Vec<Edit>,
     ids: &mut [u32],
-    told: &mut GroupTold,
+    answered: &mut EditsReceipt,
 ) -> u32
     requires { length edits.items ≤ length ids.old }
-    ensures { GroupsBy session.old edits.items result (ids.old, told.old) (ids.new, told.new)
+    ensures { GroupsBy session.old edits.items result (ids.old, answered.old) (ids.new, answered.new)
         session.new }
 {
     let answer = answer_to_group(alloc, session, edits);
-    tell_group(answer, ids, told)
+    tell_group(answer, ids, answered)
 }
 
 /// What a group is answered.
@@ -170,15 +170,15 @@ fn answer_to_group(
 fn tell_group(
     answer: Result<GroupReceipt, GroupRefused>,
     ids: &mut [u32],
-    told: &mut GroupTold,
+    answered: &mut EditsReceipt,
 ) -> u32
     requires { IfOk answer (λ receipt. length receipt.ids.items ≤ length ids.old) }
-    ensures { TellsGroup answer result (ids.old, told.old) (ids.new, told.new) }
+    ensures { TellsGroup answer result (ids.old, answered.old) (ids.new, answered.new) }
 {
     match answer {
         Ok(receipt) => {
             fill_ids(&receipt.ids, ids);
-            *told = GroupTold {
+            *answered = EditsReceipt {
                 number: receipt.number,
                 steps: receipt.steps,
                 hashed: receipt.hashed,
@@ -189,7 +189,7 @@ fn tell_group(
             DONE
         }
         Err(GroupRefused::Edit { index, refused }) => {
-            *told = told_at(index);
+            *answered = refused_at(index);
             u32::from(refused.number())
         }
         Err(refused) => u32::from(refused.number()),
@@ -197,10 +197,10 @@ fn tell_group(
 }
 
 /// What is told of a group whose edit at the index is why it isn't made.
-fn told_at(index: usize) -> GroupTold
-    ensures { result ≡ told_at index }
+fn refused_at(index: usize) -> EditsReceipt
+    ensures { result ≡ refused_at index }
 {
-    GroupTold {
+    EditsReceipt {
         number: 0,
         steps: 0,
         hashed: 0,

@@ -2,7 +2,7 @@
 
 ghost use Rattle.std.specs.Prelude.{◌≡◌, Some};
 ghost use Rattle.stream_session.specs.Taken.{input_of};
-ghost use Rattle.c_calls.specs.JobInputs.{input_told, reference_told, told_input, told_reference, unit_of};
+ghost use Rattle.c_calls.specs.JobInputs.{input_answer, reference_answer, as_job_input, as_job_reference, unit_of};
 ghost use Rattle.c_calls.specs.Telling.{Tells};
 
 use crate::statuses::{DONE, NO_SUCH_JOB, NO_SUCH_PLACE};
@@ -34,11 +34,11 @@ pub struct JobReference {
 
 /// What the job of the number is made of.
 pub fn job_input(session: &SurfaceSession, job: u64, input: &mut JobInput) -> u32
-    ensures { Tells (input_told (input_of session.now job)) result input.old input.new }
+    ensures { Tells (input_answer (input_of session.now job)) result input.old input.new }
 {
     match session.inner.job_input(job) {
         Some(found) => {
-            *input = told_input(found);
+            *input = as_job_input(found);
             DONE
         }
         None => NO_SUCH_JOB,
@@ -46,8 +46,8 @@ pub fn job_input(session: &SurfaceSession, job: u64, input: &mut JobInput) -> u3
 }
 
 /// What a job is made of, as it is told.
-fn told_input(input: &Input<Surface>) -> JobInput
-    ensures { result ≡ told_input input.now }
+fn as_job_input(input: &Input<Surface>) -> JobInput
+    ensures { result ≡ as_job_input input.now }
 {
     JobInput {
         unit: unit_of(input.requests()),
@@ -73,7 +73,7 @@ pub fn job_reference(
     index: usize,
     reference: &mut JobReference,
 ) -> u32
-    ensures { Tells (reference_told (input_of session.now job) index)
+    ensures { Tells (reference_answer (input_of session.now job) index)
         result reference.old reference.new }
 {
     match session.inner.job_input(job) {
@@ -84,11 +84,11 @@ pub fn job_reference(
 
 /// Tells a reference of what a job is made of.
 fn tell_reference(input: &Input<Surface>, index: usize, reference: &mut JobReference) -> u32
-    ensures { Tells (reference_told (Some input.now) index) result reference.old reference.new }
+    ensures { Tells (reference_answer (Some input.now) index) result reference.old reference.new }
 {
     match input.references().get(index) {
         Some(found) => {
-            *reference = told_reference(*found);
+            *reference = as_job_reference(*found);
             DONE
         }
         None => NO_SUCH_PLACE,
@@ -96,8 +96,8 @@ fn tell_reference(input: &Input<Surface>, index: usize, reference: &mut JobRefer
 }
 
 /// A reference, as it is told.
-fn told_reference(reference: Reference<Surface>) -> JobReference
-    ensures { result ≡ told_reference reference }
+fn as_job_reference(reference: Reference<Surface>) -> JobReference
+    ensures { result ≡ as_job_reference reference }
 {
     JobReference {
         timestamp: reference.timestamp,

@@ -1,7 +1,7 @@
 //! Jobs: pictures to decode.
 
 ghost use Rattle.std.specs.Prelude.{◌≡◌};
-ghost use Rattle.c_calls.specs.Jobs.{GivesBackTo, IsMadeFor, LandsTo, TakesForTo, TakesTo, told_landing, told_returning, told_take};
+ghost use Rattle.c_calls.specs.Jobs.{GivesBackTo, IsMadeFor, LandsTo, TakesForTo, TakesTo, landing_status, returning_status, as_taken};
 
 use crate::statuses::{DONE, JOBS_SPENT, MEMORY, NO_SUCH_JOB, NOTHING_DUE, STALE};
 use crate::surface_session::SurfaceSession;
@@ -24,25 +24,25 @@ pub struct JobTaken {
 pub fn take(session: &mut SurfaceSession, taken: &mut JobTaken) -> u32
     ensures { TakesTo session.old result taken.old taken.new session.new }
 {
-    let answer = session.inner.take_told();
-    tell(told_take(answer), taken)
+    let answer = session.inner.take_with_unit();
+    tell(as_taken(answer), taken)
 }
 
 /// Takes a job that the unit of the id needs: the earliest of those whose references are all held.
 pub fn take_for(session: &mut SurfaceSession, id: u32, taken: &mut JobTaken) -> u32
     ensures { TakesForTo session.old id result taken.old taken.new session.new }
 {
-    let answer = session.inner.take_told_for(AuId::new(id));
-    tell(told_take(answer), taken)
+    let answer = session.inner.take_with_unit_for(AuId::new(id));
+    tell(as_taken(answer), taken)
 }
 
 /// An answer to one who asks for a job, as it is told. The job itself is spent: the session knows it
 /// by its number.
-fn told_take(answer: Result<Option<(AuId, Job<Surface>)>, TakeRefused>) -> Result<JobTaken, u32>
-    ensures { result ≡ told_take answer }
+fn as_taken(answer: Result<Option<(AuId, Job<Surface>)>, TakeRefused>) -> Result<JobTaken, u32>
+    ensures { result ≡ as_taken answer }
 {
     match answer {
-        Ok(Some((unit, job))) => Ok(told_job(unit, job)),
+        Ok(Some((unit, job))) => Ok(as_job_taken(unit, job)),
         Ok(None) => Err(NOTHING_DUE),
         Err(TakeRefused::JobsSpent) => Err(JOBS_SPENT),
         Err(TakeRefused::Memory) => Err(MEMORY),
@@ -50,7 +50,7 @@ fn told_take(answer: Result<Option<(AuId, Job<Surface>)>, TakeRefused>) -> Resul
 }
 
 /// A job of a unit, as it is told.
-fn told_job(unit: AuId, job: Job<Surface>) -> JobTaken
+fn as_job_taken(unit: AuId, job: Job<Surface>) -> JobTaken
     ensures { result ≡ record { number = job.number; unit = unit } }
 {
     let (number, input) = job.into_parts();
@@ -69,12 +69,12 @@ pub fn land(session: &mut SurfaceSession, job: u64, surface: u64) -> u32
     ensures { LandsTo session.old job surface result session.new }
 {
     let surface = Surface { handle: surface };
-    told_landing(session.inner.land_number(job, surface))
+    landing_status(session.inner.land_number(job, surface))
 }
 
 /// What became of a picture of a job, as it is told.
-fn told_landing(answer: Landing) -> u32
-    ensures { result ≡ told_landing answer }
+fn landing_status(answer: Landing) -> u32
+    ensures { result ≡ landing_status answer }
 {
     match answer {
         Landing::Taken => DONE,
@@ -87,12 +87,12 @@ fn told_landing(answer: Landing) -> u32
 pub fn give_back(session: &mut SurfaceSession, job: u64) -> u32
     ensures { GivesBackTo session.old job result session.new }
 {
-    told_returning(session.inner.give_back_number(job))
+    returning_status(session.inner.give_back_number(job))
 }
 
 /// What became of a job that is given back, as it is told.
-fn told_returning(answer: Returning) -> u32
-    ensures { result ≡ told_returning answer }
+fn returning_status(answer: Returning) -> u32
+    ensures { result ≡ returning_status answer }
 {
     match answer {
         Returning::Returned => DONE,

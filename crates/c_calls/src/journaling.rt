@@ -1,15 +1,15 @@
 //! The journal: the accepted edits, those of a group as one entry.
 
 ghost use Rattle.std.specs.Prelude.{◌≡◌, Ok, Err, length, MatchResult};
-ghost use Rattle.c_calls.specs.Journals.{FillsText, edit_in, edits_at, told_journal};
-ghost use Rattle.c_calls.specs.Requests.{told_as};
+ghost use Rattle.c_calls.specs.Journals.{FillsText, edit_in, edits_at, as_journal_edit};
+ghost use Rattle.c_calls.specs.Requests.{laid_out};
 ghost use Rattle.c_calls.specs.Statuses.{done};
 ghost use Rattle.c_calls.specs.Telling.{Tells};
 
-use crate::filling::fill;
 use crate::statuses::{DONE, NO_SUCH_PLACE};
 use crate::surface_session::SurfaceSession;
-use stream_edits::{Edit, Place};
+use crate::telling::fill;
+use stream_edits::{Edit, InsertionPoint};
 
 /// The kind of an edit that inserts a unit before all others.
 pub const KIND_INSERT_FIRST: u32 = 0;
@@ -58,12 +58,12 @@ pub fn journal_edit(
     index: usize,
     edit: &mut JournalEdit,
 ) -> u32
-    ensures { Tells (told_as told_journal (edit_in session.now entry index))
+    ensures { Tells (laid_out as_journal_edit (edit_in session.now entry index))
         result edit.old edit.new }
 {
     match edit_in(session, entry, index) {
         Ok(found) => {
-            *edit = told_journal(found);
+            *edit = as_journal_edit(found);
             DONE
         }
         Err(why) => why,
@@ -71,16 +71,16 @@ pub fn journal_edit(
 }
 
 /// An edit, as it is told.
-fn told_journal(edit: &Edit) -> JournalEdit
-    ensures { result ≡ told_journal edit.now }
+fn as_journal_edit(edit: &Edit) -> JournalEdit
+    ensures { result ≡ as_journal_edit edit.now }
 {
     match edit {
-        Edit::Insert(Place::First, text) => JournalEdit {
+        Edit::Insert(InsertionPoint::First, text) => JournalEdit {
             kind: KIND_INSERT_FIRST,
             id: 0,
             bytes: text.len() as u64,
         },
-        Edit::Insert(Place::After(id), text) => JournalEdit {
+        Edit::Insert(InsertionPoint::After(id), text) => JournalEdit {
             kind: KIND_INSERT_AFTER,
             id: id.number(),
             bytes: text.len() as u64,

@@ -17,7 +17,7 @@ use stream_edits::{EditRefused, ReadEdit, Receipt};
 /// What is told of a stream that is loaded. Its units have the ids from the first one's on.
 #[repr(C)]
 #[derive(Clone, Copy, Debug, PartialEq, Eq)]
-pub struct LoadTold {
+pub struct LoadReceipt {
     /// How many edits and groups were accepted, with the last one of these.
     pub number: u64,
     /// How many steps of the fold they made.
@@ -37,15 +37,20 @@ pub struct LoadTold {
 
 /// Inserts the access units of a text after the last one, each by an edit. A text that is refused
 /// inserts none; an edit that is refused ends it, and those before it stay.
-pub fn load(alloc: Global, session: &mut SurfaceSession, text: &[u8], told: &mut LoadTold) -> u32
-    ensures { LoadsTo session.old text.now result told.new session.new }
+pub fn load(
+    alloc: Global,
+    session: &mut SurfaceSession,
+    text: &[u8],
+    loaded: &mut LoadReceipt,
+) -> u32
+    ensures { LoadsTo session.old text.now result loaded.new session.new }
 {
-    let room = MOST_UNITS.saturating_sub(session.inner.last().units);
-    *told = none_at(0);
-    match read_alone(alloc, text, room) {
-        Ok(units) => insert_all(alloc, units, session, told),
+    let capacity = MOST_UNITS.saturating_sub(session.inner.last().units);
+    *loaded = none_at(0);
+    match read_alone(alloc, text, capacity) {
+        Ok(units) => insert_all(alloc, units, session, loaded),
         Err(ReadFault::Refused(refusal)) => {
-            *told = none_at(index_of(refusal));
+            *loaded = none_at(index_of(refusal));
             number_of_refusal(refusal)
         }
         Err(ReadFault::Memory) => MEMORY,
@@ -57,13 +62,13 @@ fn insert_all(
     alloc: Global,
     units: Vec<Unit>,
     session: &mut SurfaceSession,
-    told: &mut LoadTold,
+    loaded: &mut LoadReceipt,
 ) -> u32
-    ensures { InsertsAll session.old units.items told.old result told.new session.new }
+    ensures { InsertsAll session.old units.items loaded.old result loaded.new session.new }
 {
     for unit in units {
         match insert_last(alloc, unit, session) {
-            Ok(receipt) => *told = with_one(*told, receipt),
+            Ok(receipt) => *loaded = with_one(*loaded, receipt),
             Err(refused) => return u32::from(refused.number()),
         }
     }
@@ -86,10 +91,10 @@ fn insert_last(
 }
 
 /// What is told where nothing was inserted.
-fn none_at(index: u64) -> LoadTold
+fn none_at(index: u64) -> LoadReceipt
     ensures { result ≡ none_at index }
 {
-    LoadTold {
+    LoadReceipt {
         number: 0,
         steps: 0,
         hashed: 0,
@@ -102,25 +107,25 @@ fn none_at(index: u64) -> LoadTold
 }
 
 /// What is told after one unit more.
-fn with_one(told: LoadTold, receipt: Receipt) -> LoadTold
-    ensures { result ≡ with_one told receipt }
+fn with_one(loaded: LoadReceipt, receipt: Receipt) -> LoadReceipt
+    ensures { result ≡ with_one loaded receipt }
 {
-    LoadTold {
+    LoadReceipt {
         number: receipt.number,
-        steps: told.steps.saturating_add(receipt.steps),
-        hashed: told.hashed.saturating_add(receipt.hashed),
-        units: told.units.saturating_add(1),
-        changed_from: if told.units == 0 {
+        steps: loaded.steps.saturating_add(receipt.steps),
+        hashed: loaded.hashed.saturating_add(receipt.hashed),
+        units: loaded.units.saturating_add(1),
+        changed_from: if loaded.units == 0 {
             receipt.changed.from
         } else {
-            told.changed_from
+            loaded.changed_from
         },
-        changed_count: told.units.saturating_add(1),
+        changed_count: loaded.units.saturating_add(1),
         index: 0,
-        first: if told.units == 0 {
+        first: if loaded.units == 0 {
             receipt.id.number()
         } else {
-            told.first
+            loaded.first
         },
     }
 }

@@ -1,7 +1,7 @@
 //! Marks of the stream, and the units that are altered since.
 
 ghost use Rattle.std.specs.Prelude.{ℕ, Result};
-ghost use Rattle.c_calls.specs.Marking.{IsAlteredTold, MarksTo};
+ghost use Rattle.c_calls.specs.Marking.{IsAlteredAnswer, MarksTo};
 ghost use Rattle.c_calls.specs.Telling.{Tells};
 
 use crate::statuses::{DONE, MEMORY, NO_SUCH_UNIT};
@@ -23,7 +23,7 @@ pub fn mark(session: &mut SurfaceSession) -> u32
 
 /// Whether the unit of the id is altered since the stream was marked. 1 or 0 is told.
 pub fn is_altered(session: &SurfaceSession, id: u32, altered: &mut u32) -> u32
-    ensures { (answer : Result ℕ ℕ) × IsAlteredTold session.now id answer
+    ensures { (answer : Result ℕ ℕ) × IsAlteredAnswer session.now id answer
         × Tells answer result altered.old altered.new }
 {
     tell(altered_of(&session.inner, id), altered)
@@ -31,7 +31,7 @@ pub fn is_altered(session: &SurfaceSession, id: u32, altered: &mut u32) -> u32
 
 /// 1 where the unit of the id is altered, else 0, or why nothing is told.
 fn altered_of(session: &Session<Surface>, id: u32) -> Result<u32, u32>
-    ensures { IsAlteredTold session.now id result }
+    ensures { IsAlteredAnswer session.now id result }
 {
     match session.is_altered(AuId::new(id)) {
         Some(altered) => Ok(u32::from(altered)),

@@ -2,10 +2,10 @@
 
 ghost use Rattle.std.specs.Prelude.{◌≡◌, ◌≤◌, length, map};
 ghost use Rattle.c_calls.specs.Grouping.{filled};
-ghost use Rattle.c_calls.specs.Mending.{MendsTo, number_of_why, told_left_out, type_of_why};
+ghost use Rattle.c_calls.specs.Mending.{MendsTo, number_of_why, as_left_out_bytes, type_of_why};
 
-use crate::filling::fill;
 use crate::statuses::MEMORY;
+use crate::telling::fill;
 use std::alloc::Global;
 use stream_mending::{LeftOut, Why};
 
@@ -36,7 +36,7 @@ pub const WHY_TOO_LARGE: u32 = 11;
 /// of a type that isn't read that type, else 0.
 #[repr(C)]
 #[derive(Clone, Copy, Debug, PartialEq, Eq)]
-pub struct LeftOutTold {
+pub struct LeftOutBytes {
     pub byte: u64,
     pub bytes: u64,
     pub why: u32,
@@ -50,7 +50,7 @@ pub fn mend(
     text: &[u8],
     bytes: &mut [u8],
     needed: &mut usize,
-    left_out: &mut [LeftOutTold],
+    left_out: &mut [LeftOutBytes],
     count: &mut usize,
 ) -> u32
     ensures { MendsTo text.now result bytes.old bytes.new needed.old needed.new left_out.old
@@ -58,8 +58,8 @@ pub fn mend(
 {
     match stream_mending::mend(alloc, text) {
         Ok(done) => {
-            let room = done.left_out.len().min(left_out.len());
-            fill_left_out(&done.left_out[..room], left_out);
+            let capacity = done.left_out.len().min(left_out.len());
+            fill_left_out(&done.left_out[..capacity], left_out);
             *count = done.left_out.len();
             fill(&done.bytes, bytes, needed)
         }
@@ -68,20 +68,20 @@ pub fn mend(
 }
 
 /// Writes what is left out at the start of what is there.
-fn fill_left_out(from: &[LeftOut], left_out: &mut [LeftOutTold])
+fn fill_left_out(from: &[LeftOut], left_out: &mut [LeftOutBytes])
     requires { length from.now ≤ length left_out.old }
-    ensures { left_out.new ≡ filled (map told_left_out from.now) left_out.old }
+    ensures { left_out.new ≡ filled (map as_left_out_bytes from.now) left_out.old }
 {
     for index in 0..from.len() {
-        left_out[index] = told_left_out(from[index]);
+        left_out[index] = as_left_out_bytes(from[index]);
     }
 }
 
 /// What is left out, as it is told.
-fn told_left_out(left_out: LeftOut) -> LeftOutTold
-    ensures { result ≡ told_left_out left_out }
+fn as_left_out_bytes(left_out: LeftOut) -> LeftOutBytes
+    ensures { result ≡ as_left_out_bytes left_out }
 {
-    LeftOutTold {
+    LeftOutBytes {
         byte: left_out.byte as u64,
         bytes: left_out.bytes as u64,
         why: number_of_why(left_out.why),

@@ -4,8 +4,8 @@ ghost use Rattle.std.specs.Prelude.{◌≡◌, codes, None, Some, MatchOption, s
 ghost use Rattle.c_calls.specs.Filling.{Fills};
 ghost use Rattle.c_calls.specs.Names.{FillsName, answers, faults, name_in, name_of_status, refusals, whys};
 
-use crate::filling::fill;
 use crate::statuses::NO_SUCH_NAME;
+use crate::telling::fill;
 
 /// Writes the name of a status.
 pub fn status_name(status: u32, name: &mut [u8], needed: &mut usize) -> u32

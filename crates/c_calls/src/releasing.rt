@@ -1,7 +1,7 @@
 //! Surfaces that go back to the host.
 
 ghost use Rattle.std.specs.Prelude.{◌≡◌};
-ghost use Rattle.c_calls.specs.Releasing.{DropsTo, GoBack, ReleasesTo, UncachesTo, told_dropped};
+ghost use Rattle.c_calls.specs.Releasing.{DropsTo, GoBack, ReleasesTo, UncachesTo, as_dropped};
 
 use crate::statuses::{DONE, NO_SUCH_UNIT, NOT_HELD};
 use crate::surface_session::SurfaceSession;
@@ -16,12 +16,12 @@ pub fn drop_picture(session: &mut SurfaceSession, id: u32, surface: &mut u64) ->
     ensures { DropsTo session.old id result surface.old surface.new session.new }
 {
     let answer = session.inner.drop_picture(AuId::new(id));
-    tell(told_dropped(answer), surface)
+    tell(as_dropped(answer), surface)
 }
 
 /// What comes of dropping a unit's picture, as it is told.
-fn told_dropped(answer: Dropped<Surface>) -> Result<u64, u32>
-    ensures { result ≡ told_dropped answer }
+fn as_dropped(answer: Dropped<Surface>) -> Result<u64, u32>
+    ensures { result ≡ as_dropped answer }
 {
     match answer {
         Dropped::Picture(surface) => Ok(surface.handle),

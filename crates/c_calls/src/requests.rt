@@ -1,13 +1,16 @@
 //! The requests of units and of jobs.
 
 ghost use Rattle.std.specs.Prelude.{◌≡◌, Some, Ok, Err, MatchResult};
-ghost use Rattle.c_calls.specs.Requests.{FillsFrom, request_layout, request_of_job, request_of_unit, request_in, told_as, weights_of};
+ghost use Rattle.c_calls.specs.Requests.{FillsFrom, request_layout, request_of_job, request_of_unit, request_in, laid_out, weights_of};
 ghost use Rattle.c_calls.specs.Telling.{Tells};
 
-use crate::filling::fill;
 use crate::statuses::{DONE, NO_SUCH_JOB, NO_SUCH_SLICE, NO_SUCH_UNIT, NO_WEIGHTS, NOT_VALID};
 use crate::surface_session::SurfaceSession;
-use frame_requests::layouts::{DecodeParams, Pps, PredWeights, ScalingMatrix, SliceParams, Sps};
+use crate::telling::fill;
+use frame_requests::layouts::{
+    DecodeParamsLayout, PpsLayout, PredWeightsLayout, ScalingMatrixLayout, SliceParamsLayout,
+    SpsLayout,
+};
 use h264_controls::Request;
 use h264_types::pictures::AuId;
 use unit_outcomes::Outcome;
@@ -27,11 +30,11 @@ pub struct SliceRequest {
     pub hold: u32,
     /// 1 where the slice has a weight table, else 0.
     pub has_weights: u32,
-    pub pps: Pps,
-    pub sps: Sps,
-    pub scaling_matrix: ScalingMatrix,
-    pub slice_params: SliceParams,
-    pub decode_params: DecodeParams,
+    pub pps: PpsLayout,
+    pub sps: SpsLayout,
+    pub scaling_matrix: ScalingMatrixLayout,
+    pub slice_params: SliceParamsLayout,
+    pub decode_params: DecodeParamsLayout,
 }
 
 impl SliceRequest {
@@ -46,11 +49,11 @@ impl SliceRequest {
             unit_begins: 3,
             hold: u32::from(request.hold),
             has_weights: u32::from(controls.pred_weights.is_some()),
-            pps: Pps::of(&controls.sets.pps),
-            sps: Sps::of(&controls.sets.sps),
-            scaling_matrix: ScalingMatrix::of(&controls.sets.scaling_matrix),
-            slice_params: SliceParams::of(&controls.slice_params),
-            decode_params: DecodeParams::of(&controls.decode_params, &request.references),
+            pps: PpsLayout::of(&controls.sets.pps),
+            sps: SpsLayout::of(&controls.sets.sps),
+            scaling_matrix: ScalingMatrixLayout::of(&controls.sets.scaling_matrix),
+            slice_params: SliceParamsLayout::of(&controls.slice_params),
+            decode_params: DecodeParamsLayout::of(&controls.decode_params, &request.references),
         }
     }
 }
@@ -62,7 +65,7 @@ pub fn unit_request(
     slice: usize,
     request: &mut SliceRequest,
 ) -> u32
-    ensures { Tells (told_as request_layout (request_of_unit session.now id slice))
+    ensures { Tells (laid_out request_layout (request_of_unit session.now id slice))
         result request.old request.new }
 {
     match request_of_unit(session, id, slice) {
@@ -78,7 +81,7 @@ pub fn job_request(
     slice: usize,
     request: &mut SliceRequest,
 ) -> u32
-    ensures { Tells (told_as request_layout (request_of_job session.now job slice))
+    ensures { Tells (laid_out request_layout (request_of_job session.now job slice))
         result request.old request.new }
 {
     match request_of_job(session, job, slice) {
@@ -100,7 +103,7 @@ pub fn unit_weights(
     session: &SurfaceSession,
     id: u32,
     slice: usize,
-    weights: &mut PredWeights,
+    weights: &mut PredWeightsLayout,
 ) -> u32
     ensures { Tells (weights_of (request_of_unit session.now id slice))
         result weights.old weights.new }
@@ -116,7 +119,7 @@ pub fn job_weights(
     session: &SurfaceSession,
     job: u64,
     slice: usize,
-    weights: &mut PredWeights,
+    weights: &mut PredWeightsLayout,
 ) -> u32
     ensures { Tells (weights_of (request_of_job session.now job slice))
         result weights.old weights.new }
@@ -128,12 +131,12 @@ pub fn job_weights(
 }
 
 /// Tells the weight table of a request.
-fn tell_weights(found: &Request, weights: &mut PredWeights) -> u32
+fn tell_weights(found: &Request, weights: &mut PredWeightsLayout) -> u32
     ensures { Tells (weights_of (Ok found.now)) result weights.old weights.new }
 {
     match &found.controls().pred_weights {
         Some(table) => {
-            *weights = PredWeights::of(table);
+            *weights = PredWeightsLayout::of(table);
             DONE
         }
         None => NO_WEIGHTS,

@@ -1,7 +1,7 @@
 //! The session that a handle has: one over the surfaces of a host.
 
 ghost use Rattle.std.specs.Prelude.{◌≡◌, ◌≤◌, ◌↔◌, IfOk, IsErrOf};
-ghost use Rattle.held_pictures.specs.Bounded.{most_room};
+ghost use Rattle.held_pictures.specs.Bounded.{most_capacity};
 ghost use Rattle.stream_session.specs.Machines.{empty};
 
 use decode_jobs::surfaces::Surface;
@@ -24,12 +24,12 @@ impl Drop for SurfaceSession {
 impl Model for SurfaceSession {
     ghost use Rattle.std.specs.Coded.{codes};
     ghost use Rattle.decode_jobs.specs.Trees.{tree_code};
-    ghost use Rattle.picture_keys.specs.contracts.works.Works as works;
+    ghost use Rattle.picture_keys.specs.contracts.request_bodies.RequestBodies as bodies;
     ghost use Rattle.c_calls.specs.Machines.{Machine};
 
     ghost Value = { Machine };
 
-    ghost coded = { Prim.hlevel (codes, tree_code works.the_row.coded) };
+    ghost coded = { Prim.hlevel (codes, tree_code bodies.the_row.coded) };
 
     ghost view = { λ session. session.inner };
 }
@@ -39,7 +39,7 @@ impl SurfaceSession {
     pub fn new(alloc: Global, config: Config) -> Result<SurfaceSession, ConfigFault>
         ensures ok { IfOk result (λ session. session ≡ empty config.cache) }
         ensures cache { IsErrOf result ConfigFault.Cache
-            ↔ ((1 ≤ config.cache) × (config.cache ≤ most_room) → ⊥) }
+            ↔ ((1 ≤ config.cache) × (config.cache ≤ most_capacity) → ⊥) }
     {
         Ok(SurfaceSession {
             inner: Session::new(alloc, config)?,

@@ -4,7 +4,7 @@ use Rattle.console_io.specs.Messages.{Tells, input_fault_text, print_fault_text}
 use Rattle.console_io.specs.declared.chunks.PrintFault.{PrintFault}
 use Rattle.console_io.specs.declared.chunks.PrintFault.TheVariants as print
 use Rattle.console_io.specs.declared.input.InputFault.{InputFault}
-use Rattle.stream_check.specs.Found.{IsFine}
+use Rattle.stream_check.specs.CheckResult.{IsFine}
 
 -- why it doesn't succeed: the input wasn't read, what was found wasn't printed, or there is something to complain of
 pub data CheckEnd : Type 0 where

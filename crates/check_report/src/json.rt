@@ -4,8 +4,8 @@ use access_unit::{Refusal, Refused};
 use serde::Serialize;
 use std::alloc::{AllocError, Global};
 use stream_check::{
-    CheckedStream, Counts, Found, Place, Problem, RefusedStream, SetWords, Stretch, Unread,
-    chroma_words, longest, profile_words,
+    CheckResult, CheckedStream, DoubtRange, Problem, RefusedStream, SetWords, StreamCounts,
+    UnitSpan, Unread, chroma_words, longest, profile_words,
 };
 use stream_reasons::Reason;
 use stream_reasons::file_kinds::FileKind;
@@ -13,7 +13,7 @@ use stream_reasons::file_kinds::FileKind;
 /// What is found of a file: one object.
 #[derive(Drop, Serialize)]
 #[serde(untagged)]
-enum FoundJson {
+enum CheckResultJson {
     Other(OtherJson),
     Refused(RefusedJson),
     Stream(StreamJson),
@@ -56,12 +56,12 @@ struct LeftOutJson {
 struct StreamJson {
     kind: &'static str,
     sets: Vec<SetJson>,
-    counts: Counts,
+    counts: StreamCounts,
     surfaces: usize,
     longest_unit: usize,
     problems: Vec<ProblemJson>,
-    doubts: Vec<StretchJson>,
-    units: Vec<Place>,
+    doubts: Vec<DoubtRangeJson>,
+    units: Vec<UnitSpan>,
 }
 
 /// A sequence parameter set.
@@ -91,9 +91,9 @@ struct ProblemJson {
     reason: String,
 }
 
-/// A stretch in doubt.
+/// A doubt_range in doubt.
 #[derive(Drop, Serialize)]
-struct StretchJson {
+struct DoubtRangeJson {
     first: u32,
     last: u32,
     follows: u32,
@@ -101,8 +101,8 @@ struct StretchJson {
 }
 
 /// What was found, as an object with a line break after it.
-pub fn json_of(alloc: Global, found: &Found) -> Result<String, AllocError> {
-    let json = found_json(alloc, found)?;
+pub fn json_of(alloc: Global, found: &CheckResult) -> Result<String, AllocError> {
+    let json = check_result_json(alloc, found)?;
     let Ok(mut text) = serde_json::to_string(alloc, &json) else {
         return Err(AllocError);
     };
@@ -110,11 +110,13 @@ pub fn json_of(alloc: Global, found: &Found) -> Result<String, AllocError> {
     Ok(text)
 }
 
-fn found_json(alloc: Global, found: &Found) -> Result<FoundJson, AllocError> {
+fn check_result_json(alloc: Global, found: &CheckResult) -> Result<CheckResultJson, AllocError> {
     match found {
-        Found::Other(kind) => Ok(FoundJson::Other(other_json(*kind))),
-        Found::Refused(refused) => Ok(FoundJson::Refused(refused_json(alloc, refused)?)),
-        Found::Stream(stream) => Ok(FoundJson::Stream(stream_json(alloc, stream)?)),
+        CheckResult::Other(kind) => Ok(CheckResultJson::Other(other_json(*kind))),
+        CheckResult::Refused(refused) => Ok(CheckResultJson::Refused(refused_json(
+            alloc, refused,
+        )?)),
+        CheckResult::Stream(stream) => Ok(CheckResultJson::Stream(stream_json(alloc, stream)?)),
     }
 }
 
@@ -185,16 +187,16 @@ fn stream_json(alloc: Global, stream: &CheckedStream) -> Result<StreamJson, Allo
         sets: sets_json(alloc, &stream.sets)?,
         counts: stream.counts,
         surfaces: stream.surfaces,
-        longest_unit: longest(&stream.places),
-        problems: problems_json(alloc, &stream.problems, &stream.places)?,
-        doubts: doubts_json(alloc, &stream.stretches)?,
-        units: copied(alloc, &stream.places)?,
+        longest_unit: longest(&stream.spans),
+        problems: problems_json(alloc, &stream.problems, &stream.spans)?,
+        doubts: doubts_json(alloc, &stream.doubt_ranges)?,
+        units: copied(alloc, &stream.spans)?,
     })
 }
 
-fn copied(alloc: Global, places: &[Place]) -> Result<Vec<Place>, AllocError> {
-    let mut copies = Vec::with_capacity(alloc, places.len())?;
-    copies.extend_from_slice(places)?;
+fn copied(alloc: Global, spans: &[UnitSpan]) -> Result<Vec<UnitSpan>, AllocError> {
+    let mut copies = Vec::with_capacity(alloc, spans.len())?;
+    copies.extend_from_slice(spans)?;
     Ok(copies)
 }
 
@@ -225,16 +227,20 @@ fn set_json(alloc: Global, words: &SetWords) -> Result<SetJson, AllocError> {
 fn problems_json(
     alloc: Global,
     problems: &[Problem],
-    places: &[Place],
+    spans: &[UnitSpan],
 ) -> Result<Vec<ProblemJson>, AllocError> {
     let mut json = Vec::with_capacity(alloc, problems.len())?;
     for problem in problems {
-        json.push(problem_json(alloc, problem, problem.place_in(places))?)?;
+        json.push(problem_json(alloc, problem, problem.span_in(spans))?)?;
     }
     Ok(json)
 }
 
-fn problem_json(alloc: Global, problem: &Problem, place: Place) -> Result<ProblemJson, AllocError> {
+fn problem_json(
+    alloc: Global,
+    problem: &Problem,
+    place: UnitSpan,
+) -> Result<ProblemJson, AllocError> {
     Ok(ProblemJson {
         unit: problem.unit.number(),
         byte: place.byte,
@@ -245,14 +251,17 @@ fn problem_json(alloc: Global, problem: &Problem, place: Place) -> Result<Proble
     })
 }
 
-fn doubts_json(alloc: Global, stretches: &[Stretch]) -> Result<Vec<StretchJson>, AllocError> {
-    let mut json = Vec::with_capacity(alloc, stretches.len())?;
-    for stretch in stretches {
-        json.push(StretchJson {
-            first: stretch.first.number(),
-            last: stretch.last.number(),
-            follows: stretch.follows.number(),
-            in_doubt: stretch.in_doubt,
+fn doubts_json(
+    alloc: Global,
+    doubt_ranges: &[DoubtRange],
+) -> Result<Vec<DoubtRangeJson>, AllocError> {
+    let mut json = Vec::with_capacity(alloc, doubt_ranges.len())?;
+    for doubt_range in doubt_ranges {
+        json.push(DoubtRangeJson {
+            first: doubt_range.first.number(),
+            last: doubt_range.last.number(),
+            follows: doubt_range.follows.number(),
+            in_doubt: doubt_range.in_doubt,
         })?;
     }
     Ok(json)

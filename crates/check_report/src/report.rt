@@ -4,7 +4,7 @@ use access_unit::Refusal;
 use std::fmt;
 use std::fmt::{Display, Formatter, Write};
 use stream_check::{
-    CheckedStream, Counts, Found, Problem, RefusedStream, Stretch, Unread, longest,
+    CheckResult, CheckedStream, DoubtRange, Problem, RefusedStream, StreamCounts, Unread, longest,
 };
 use stream_reasons::Reason;
 use stream_reasons::file_kinds::FileKind;
@@ -39,7 +39,7 @@ const FAULTS: [ValidityFault; 18] = [
 #[derive(Drop)]
 pub struct Report<'a> {
     pub name: &'a str,
-    pub found: &'a Found,
+    pub found: &'a CheckResult,
 }
 
 impl<'a> Display for Report<'a> {
@@ -47,9 +47,9 @@ impl<'a> Display for Report<'a> {
         f.write_str(self.name)?;
         f.write_str(": ")?;
         match self.found {
-            Found::Other(kind) => write!(f, "{}", OtherLines(*kind)),
-            Found::Refused(refused) => write!(f, "{}", RefusedLines(refused)),
-            Found::Stream(stream) => write!(f, "{}", StreamLines(stream)),
+            CheckResult::Other(kind) => write!(f, "{}", OtherLines(*kind)),
+            CheckResult::Refused(refused) => write!(f, "{}", RefusedLines(refused)),
+            CheckResult::Stream(stream) => write!(f, "{}", StreamLines(stream)),
         }
     }
 }
@@ -191,7 +191,7 @@ impl<'a> Display for StreamLines<'a> {
             writeln!(f, "{words}")?;
         }
         write!(f, "{}", CountLines(&self.0.counts))?;
-        let (surfaces, longest) = (self.0.surfaces, longest(self.0.places.as_slice()));
+        let (surfaces, longest) = (self.0.surfaces, longest(self.0.spans.as_slice()));
         writeln!(
             f,
             "surfaces that a decoder needs to show pictures in output order: {surfaces}"
@@ -204,7 +204,7 @@ impl<'a> Display for StreamLines<'a> {
 
 /// What is counted.
 #[derive(Drop)]
-struct CountLines<'a>(&'a Counts);
+struct CountLines<'a>(&'a StreamCounts);
 
 impl<'a> Display for CountLines<'a> {
     fn fmt<W: Write>(&self, f: &mut Formatter<W>) -> fmt::Result {
@@ -268,7 +268,7 @@ impl<'a> Display for FaultLines<'a> {
         for problem in self.stream.problems.as_slice() {
             if problem.fault.number() == self.fault.number() {
                 if count < MOST_LINES {
-                    let place = problem.place_in(self.stream.places.as_slice()).byte;
+                    let place = problem.span_in(self.stream.spans.as_slice()).byte;
                     writeln!(f, "{}", ProblemLine { problem, place })?;
                 }
                 count = count.saturating_add(1);
@@ -305,7 +305,7 @@ impl<'a> Display for ProblemLine<'a> {
     }
 }
 
-/// The stretches in doubt.
+/// The doubt_ranges in doubt.
 #[derive(Drop)]
 struct DoubtLines<'a>(&'a CheckedStream);
 
@@ -316,10 +316,10 @@ impl<'a> Display for DoubtLines<'a> {
             f,
             "pictures in doubt, which may be made of other frames than was meant: {count}"
         )?;
-        for stretch in self.0.stretches.iter().take(MOST_LINES) {
-            writeln!(f, "{}", StretchLine(stretch))?;
+        for doubt_range in self.0.doubt_ranges.iter().take(MOST_LINES) {
+            writeln!(f, "{}", DoubtRangeLine(doubt_range))?;
         }
-        let rest = self.0.stretches.len().saturating_sub(MOST_LINES);
+        let rest = self.0.doubt_ranges.len().saturating_sub(MOST_LINES);
         write!(
             f,
             "{}",
@@ -331,11 +331,11 @@ impl<'a> Display for DoubtLines<'a> {
     }
 }
 
-/// A stretch in doubt.
+/// A doubt_range in doubt.
 #[derive(Drop)]
-struct StretchLine<'a>(&'a Stretch);
+struct DoubtRangeLine<'a>(&'a DoubtRange);
 
-impl<'a> Display for StretchLine<'a> {
+impl<'a> Display for DoubtRangeLine<'a> {
     fn fmt<W: Write>(&self, f: &mut Formatter<W>) -> fmt::Result {
         let (first, last) = (self.0.first.number(), self.0.last.number());
         let (count, follows) = (self.0.in_doubt, self.0.follows.number());

@@ -3,7 +3,7 @@
 ghost use Rattle.std.specs.Prelude.{◌≡◌, ◌≢◌, [], ℕ, List, IfErr, IfSome};
 ghost use Rattle.std.specs.Io.KnownBytes.{Keeps};
 ghost use Rattle.console_io.specs.Messages.{Tells};
-ghost use Rattle.stream_check.specs.Found.{IsFine};
+ghost use Rattle.stream_check.specs.CheckResult.{IsFine};
 ghost use Rattle.check_report.specs.Ends.{FailsCheck, FailsText};
 
 use crate::json::json_of;
@@ -16,7 +16,7 @@ use console_io::{
 use std::alloc::Global;
 use std::io::Read;
 use std::thread::Threads;
-use stream_check::{Found, check};
+use stream_check::{CheckResult, check};
 
 /// How a check is printed.
 #[derive(Clone, Copy)]
@@ -100,7 +100,7 @@ fn print<W: Sink>(
     alloc: Global,
     form: Form,
     name: &str,
-    found: &Found,
+    found: &CheckResult,
     writer: &mut W,
 ) -> Result<(), PrintFault>
     ensures { IfErr result (λ fault. fault ≡ PrintFault.Unwritten → W.refuses writer.new) }

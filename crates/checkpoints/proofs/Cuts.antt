@@ -1,4 +1,4 @@
--- A stretch taken out of the places and of the states.
+-- A range taken out of the places and of the states.
 use Rattle.std.proofs.Common.{◌≡◌, ℕ, zero, suc, ◌<◌, ◌≤◌, max, List, [], ◌∷◌, ◌++◌, take, drop, length, refl, ap, arith, inl, inr}
 use Rattle.std.specs.List.{AllByRecursion, zip}
 use Rattle.std.proofs.lemmas.List.{length-append, length-take, length-drop}

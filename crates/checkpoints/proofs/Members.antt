@@ -1,4 +1,4 @@
--- Which places are there after a state is put, and after a stretch is cut.
+-- Which places are there after a state is put, and after a range is cut.
 use Rattle.std.proofs.Common.{◌≡◌, ◌⊎◌, ℕ, zero, suc, ◌<◌, ◌≤◌, true, false, List, [], ◌∷◌, length, get_or, All, Contains, map, Some, refl, sym, ◌∙◌, subst, arith, eqb, leb, inl, inr}
 use Rattle.std.specs.Map.{keys_of, lookup}
 use Rattle.std.specs.Ordering.{nat_cmp}

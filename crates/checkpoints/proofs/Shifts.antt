@@ -3,8 +3,8 @@ use Rattle.std.proofs.Common.{◌≡◌, ℕ, suc, ◌<◌, ◌≤◌, List, [],
 use Rattle.std.specs.List.{AllByRecursion, zip}
 use Rattle.std.proofs.lemmas.Bool.{cases_lt, lt-ltb, le-ltb}
 use Rattle.std.proofs.lemmas.List.{get_or_default}
-use Rattle.checkpoints.specs.declared.length_change.LengthChange.{LengthChange}
-use Rattle.checkpoints.specs.declared.length_change.LengthChange.TheVariants.{Longer, Shorter}
+use Rattle.checkpoints.specs.declared.shifting.LengthChange.{LengthChange}
+use Rattle.checkpoints.specs.declared.shifting.LengthChange.TheVariants.{Longer, Shorter}
 use Rattle.checkpoints.specs.Places.{StartsAtZero, AreRising}
 use Rattle.checkpoints.specs.Changes.{moved, CanShift, IsMovable, shifted}
 

@@ -1,11 +1,11 @@
--- Which states are stored after a state is put, a stretch is cut and places move.
+-- Which states are stored after a state is put, a range is cut and places move.
 use Rattle.std.proofs.Common.{◌≡◌, ℕ, ◌<◌, true, false, cond, List, [], ◌∷◌, Contains, map, Option, Some, None, refl, ap, sym, ◌∙◌, arith, eqb, inl, inr}
 use Rattle.std.specs.Map.{keys_of, lookup}
 use Rattle.std.specs.Ordering.{nat_cmp}
 use Rattle.std.specs.BTreeMap.{insert_entry}
 use Rattle.std.proofs.lemmas.Bool.{cases_order, cases_eq, lt-ltb, le-ltb, eq-eqb, ne_eqb, eqb-true}
 use Rattle.std.proofs.lemmas.Map.Views.{Contains-keys_from_lookup}
-use Rattle.checkpoints.specs.declared.length_change.LengthChange.{LengthChange}
+use Rattle.checkpoints.specs.declared.shifting.LengthChange.{LengthChange}
 use Rattle.checkpoints.specs.Places.{StartsAtZero}
 use Rattle.checkpoints.specs.Stored.{IsStoredAt}
 use Rattle.checkpoints.specs.Changes.{is_kept, cut, moved, shifted, CanShift}

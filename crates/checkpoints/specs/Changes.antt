@@ -1,7 +1,7 @@
--- What becomes of stored states where a stretch of the stream is changed.
+-- What becomes of stored states where a range of the stream is changed.
 use Rattle.std.specs.Prelude.{ℕ, ◌+◌, ◌-◌, ◌<◌, ◌≤◌, ◌^◌, ◌||◌, Bool, List, Contains, map, filter, nat_lt, nat_le, if◌then◌else◌}
-use Rattle.checkpoints.specs.declared.length_change.LengthChange.{LengthChange}
-use Rattle.checkpoints.specs.declared.length_change.LengthChange.TheVariants.{Longer, Shorter}
+use Rattle.checkpoints.specs.declared.shifting.LengthChange.{LengthChange}
+use Rattle.checkpoints.specs.declared.shifting.LengthChange.TheVariants.{Longer, Shorter}
 
 -- the place that a place comes to, where what is before it changes its length
 abbrev pub changed : LengthChange → ℕ → ℕ

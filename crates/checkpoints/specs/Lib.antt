@@ -2,5 +2,5 @@ pub mod Places
 pub mod Stored
 pub mod Search
 pub mod Changes
-pub mod Kept
+pub mod Invariants
 pub mod Spacing

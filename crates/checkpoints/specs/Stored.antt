@@ -7,13 +7,13 @@ use Rattle.checkpoints.specs.Places.{StartsAtZero, AreRising}
 -- the places with their states, in order, and for how many more places there is room
 pub record Stored (S : Type 0) : Type 0 where
   pub states : List (ℕ × S)
-  pub room : ℕ
+  pub spare : ℕ
 
 module _ {S : Type 0} where
   -- states are stored as the pair of the fields
   abbrev pub stored_code : Coded S → Coded (Stored S)
   stored_code state =
-      code_by (List (ℕ × S) × ℕ) (coded× (coded_list (coded× coded_ℕ state)) coded_ℕ) (λ s. (s.states, s.room)) (λ p. record { states = p.0; room = p.1 }) (λ _. refl)
+      code_by (List (ℕ × S) × ℕ) (coded× (coded_list (coded× coded_ℕ state)) coded_ℕ) (λ s. (s.states, s.spare)) (λ p. record { states = p.0; spare = p.1 }) (λ _. refl)
 
   -- what holds always: the state at place 0 is there, and no place is there twice
   pub record IsInOrder (states : List (ℕ × S)) : Type 0 where
@@ -42,6 +42,6 @@ module _ {S : Type 0} where
     pub greatest : All (λ e. e.0 ≤ found) states
 
   -- for how many more places there is room once a state is put at the place
-  abbrev pub room_after_put : Stored S → ℕ → ℕ
-  room_after_put stored place =
-      if is_some (lookup (nat_eq place) stored.states) then stored.room else stored.room - 1
+  abbrev pub spare_after_put : Stored S → ℕ → ℕ
+  spare_after_put stored place =
+      if is_some (lookup (nat_eq place) stored.states) then stored.spare else stored.spare - 1

@@ -2,12 +2,12 @@ ghost use Rattle.std.specs.Prelude.{◌≡◌, ◌<◌, ◌≤◌, [], ◌∷◌
 ghost use Rattle.std.specs.Map.{lookup, keys_of};
 ghost use Rattle.std.specs.Ordering.{nat_cmp};
 ghost use Rattle.std.specs.BTreeMap.{insert_entry};
-ghost use Rattle.checkpoints.specs.Stored.{IsInOrder, IsBefore, IsAfter, IsLast, room_after_put};
+ghost use Rattle.checkpoints.specs.Stored.{IsInOrder, IsBefore, IsAfter, IsLast, spare_after_put};
 ghost use Rattle.checkpoints.specs.Changes.{CanShift, shifted, cut};
+ghost use Rattle.checkpoints.specs.Places.{AreRising};
+ghost use Rattle.checkpoints.specs.Search.{places_up_to, places_below};
 
-use crate::length_change::LengthChange;
-use crate::search::{places_below, places_up_to};
-use crate::shifting::{move_places, remove_range};
+use crate::shifting::{LengthChange, move_places, remove_range};
 use std::alloc::{AllocError, Global};
 use std::marker::Model;
 
@@ -31,27 +31,27 @@ pub struct Checkpoint<'a, S> {
 pub struct Checkpoints<S> {
     places: Vec<usize>,
     states: Vec<S>,
-    room: usize,
+    spare: usize,
 }
 
 impl<S> Model for Checkpoints<S> {
     ghost use Rattle.std.specs.List.{zip};
     ghost use Rattle.checkpoints.specs.Stored.{Stored, stored_code};
-    ghost use Rattle.checkpoints.specs.Kept.{IsKept};
+    ghost use Rattle.checkpoints.specs.Invariants.{IsSound};
 
     ghost Value = { Stored S };
 
     ghost coded = { stored_code S.code };
 
-    ghost view = { λ c. record { states = zip c.places.items c.states.items; room = c.room } };
+    ghost view = { λ c. record { states = zip c.places.items c.states.items; spare = c.spare } };
 
-    ghost invariant = { λ c. IsKept c.places c.states c.room };
+    ghost invariant = { λ c. IsSound c.places c.states c.spare };
 }
 
 impl<S: Drop> Checkpoints<S> {
     /// Stores the state at place 0, before any unit.
     pub fn new(alloc: Global, first: S) -> Result<Self, AllocError>
-        ensures { IfOk result (λ c. c ≡ record { states = (0, first) ∷ []; room = 0 }) }
+        ensures { IfOk result (λ c. c ≡ record { states = (0, first) ∷ []; spare = 0 }) }
     {
         let mut places = Vec::new(alloc);
         places.push(0)?;
@@ -60,7 +60,7 @@ impl<S: Drop> Checkpoints<S> {
         Ok(Checkpoints {
             places,
             states,
-            room: 0,
+            spare: 0,
         })
     }
 
@@ -124,33 +124,33 @@ impl<S: Drop> Checkpoints<S> {
     }
 
     /// For how many more places there is room.
-    pub fn room(&self) -> usize
-        ensures { result ≡ self.now.room }
+    pub fn spare(&self) -> usize
+        ensures { result ≡ self.now.spare }
     {
-        self.room
+        self.spare
     }
 
     /// Makes room for this many more places, so that so many calls of `put` take no memory.
     pub fn reserve(&mut self, n: usize) -> Result<(), AllocError>
-        ensures ok { OnOk result (self.new ≡ record self.old { room = max self.old.room n }) }
+        ensures ok { OnOk result (self.new ≡ record self.old { spare = max self.old.spare n }) }
         ensures err { OnErr result (self.new ≡ self.old) }
-        ensures there { n ≤ self.old.room → IsOk result }
+        ensures there { n ≤ self.old.spare → IsOk result }
     {
-        if n <= self.room {
+        if n <= self.spare {
             return Ok(());
         }
         self.places.reserve(n)?;
         self.states.reserve(n)?;
-        self.room = n;
+        self.spare = n;
         Ok(())
     }
 
     /// Stores the state at the place, in the place of one that is stored there; at a new place it
     /// takes up room. Takes no memory.
     pub fn put(&mut self, place: usize, state: S)
-        requires { lookup (nat_eq place) self.old.states ≡ None → 0 < self.old.room }
+        requires { lookup (nat_eq place) self.old.states ≡ None → 0 < self.old.spare }
         ensures states { self.new.states ≡ insert_entry nat_cmp self.old.states place state }
-        ensures room { self.new.room ≡ room_after_put self.old place }
+        ensures spare { self.new.spare ≡ spare_after_put self.old place }
         ensures in_order { IsInOrder self.new.states }
     {
         let past = places_up_to(&self.places, place);
@@ -159,7 +159,7 @@ impl<S: Drop> Checkpoints<S> {
         } else {
             self.places.insert(past, place).unwrap();
             self.states.insert(past, state).unwrap();
-            self.room -= 1;
+            self.spare -= 1;
         }
     }
 
@@ -185,4 +185,22 @@ impl<S: Drop> Checkpoints<S> {
         remove_range(&mut self.places, first, past);
         remove_range(&mut self.states, first, past);
     }
+}
+
+/// How many places aren't above this one.
+pub(crate) fn places_up_to(places: &[usize], place: usize) -> usize
+    requires { AreRising places.now }
+    ensures value { result ≡ places_up_to places.now place }
+    ensures bound { result ≤ length places.now }
+{
+    places.partition_point(|other| *other <= place)
+}
+
+/// How many places are below this one.
+pub(crate) fn places_below(places: &[usize], place: usize) -> usize
+    requires { AreRising places.now }
+    ensures value { result ≡ places_below places.now place }
+    ensures bound { result ≤ length places.now }
+{
+    places.partition_point(|other| *other < place)
 }

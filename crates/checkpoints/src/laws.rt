@@ -4,8 +4,8 @@ ghost use Rattle.std.specs.Prelude.{◌≡◌, ◌↔◌, ◌⊎◌, ℕ, ◌+�
 ghost use Rattle.std.specs.Map.{keys_of, lookup};
 ghost use Rattle.std.specs.Ordering.{nat_cmp};
 ghost use Rattle.std.specs.BTreeMap.{insert_entry};
-ghost use Rattle.checkpoints.specs.declared.length_change.LengthChange.{LengthChange as Change};
-ghost use Rattle.checkpoints.specs.declared.length_change.LengthChange.TheVariants.{Longer, Shorter};
+ghost use Rattle.checkpoints.specs.declared.shifting.LengthChange.{LengthChange as Change};
+ghost use Rattle.checkpoints.specs.declared.shifting.LengthChange.TheVariants.{Longer, Shorter};
 ghost use Rattle.checkpoints.specs.Places.{StartsAtZero, AreRising};
 ghost use Rattle.checkpoints.specs.Stored.{IsInOrder, IsStoredAt, IsBefore, IsLast};
 ghost use Rattle.checkpoints.specs.Changes.{CanShift, changed, moved, shifted, is_kept, cut};

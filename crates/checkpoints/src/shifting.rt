@@ -1,10 +1,30 @@
-//! Moves places, and takes a stretch out of a list.
+//! Moves places, and takes a range out of a list.
 
-ghost use Rattle.std.specs.Prelude.{◌≡◌, ◌≤◌, ◌++◌, All, map, take, drop, vec_len};
+ghost use Rattle.std.specs.Prelude.{◌≡◌, ◌≤◌, ◌++◌, All, map, take, drop, vec_len, ◌<◌, ◌-◌};
 ghost use Rattle.std.specs.Vec.{vec_capacity};
-ghost use Rattle.checkpoints.specs.Changes.{moved, IsMovable};
+ghost use Rattle.checkpoints.specs.Changes.{moved, IsMovable, changed};
 
-use crate::length_change::LengthChange;
+/// How the length of a range of the stream changes, in units.
+#[derive(Clone, Copy, Debug, PartialEq, Eq)]
+pub enum LengthChange {
+    /// It has this many units more.
+    Longer(usize),
+    /// It has this many units less.
+    Shorter(usize),
+}
+
+impl LengthChange {
+    /// The change of a range that ended at the place `old` and ends at `new`.
+    pub fn between(old: usize, new: usize) -> LengthChange
+        ensures { changed result old ≡ new }
+    {
+        if old <= new {
+            LengthChange::Longer(new - old)
+        } else {
+            LengthChange::Shorter(old - new)
+        }
+    }
+}
 
 /// Where a place is after a change that ends at `from`.
 fn moved(from: usize, change: LengthChange, place: usize) -> usize

@@ -9,7 +9,7 @@ use Rattle.clap.specs.declared.builder.ValueParser.TheVariants.{Unsigned}
 use Rattle.clap.specs.declared.parser.matches.Found.{Found}
 use Rattle.clap.proofs.ValueTestLemmas.{Accepts-accepts, accepts-Accepts}
 use Rattle.clap.proofs.WalkLemmas.{first_value-rows, one_text-rows}
-use Rattle.unit_printing.specs.declared.json.decode_mode.DecodeMode.{DecodeMode}
+use Rattle.unit_printing.specs.declared.json.encoding.DecodeMode.{DecodeMode}
 use Rattle.cli.specs.Bounds.{most_id}
 use Rattle.cli.specs.CommandLine.{Wanted, audit, audit_in, cache_in, check, check_in, draw_in, drawing, form_in, from_by, from_in, has_flag, is_true, mend, mend_in, number_in, number_of, plan, plan_in, run, run_in, serve, serve_in, several, units_in, workers_in}
 
@@ -78,7 +78,7 @@ hex_of f = has_flag (codes "hex") (rows_of f)
 
 -- the run of a script with these
 abbrev run_with : Bool → Text → ℕ → ℕ → Wanted
-run_with hex name workers room = run name (several workers) room hex
+run_with hex name workers capacity = run name (several workers) capacity hex
 
 -- with no value of SCRIPT nothing is run
 pub no-script : (f : Found) → None ≡ first_value f (codes "SCRIPT") → None ≡ run_in (rows_of f)
@@ -87,11 +87,11 @@ no-script f none = ap (option_and_then (λ name. option_and_then (λ workers.
     (none ∙ first_value-rows f (codes "SCRIPT"))
 
 -- with one it is run with what the options give
-pub script-read : (f : Found) (name : Text) (workers room : Option ℕ) (hex : Bool) → Some name ≡ first_value f (codes "SCRIPT")
-    → workers_in 0 (rows_of f) ≡ workers → cache_in (rows_of f) ≡ room → hex ≡ hex_of f
-    → option_and_then (λ n. option_map (run_with hex name n) room) workers ≡ run_in (rows_of f)
-script-read f name workers room hex script several_are is given =
-    ap (λ (h : Bool). option_and_then (λ n. option_map (run_with h name n) room) workers) given
+pub script-read : (f : Found) (name : Text) (workers capacity : Option ℕ) (hex : Bool) → Some name ≡ first_value f (codes "SCRIPT")
+    → workers_in 0 (rows_of f) ≡ workers → cache_in (rows_of f) ≡ capacity → hex ≡ hex_of f
+    → option_and_then (λ n. option_map (run_with hex name n) capacity) workers ≡ run_in (rows_of f)
+script-read f name workers capacity hex script several_are is given =
+    ap (λ (h : Bool). option_and_then (λ n. option_map (run_with h name n) capacity) workers) given
     ∙ (ap (λ (r : Option ℕ). option_and_then (λ n. option_map (run_with (hex_of f) name n) r) workers) (sym is)
     ∙ (ap (option_and_then (λ n. option_map (run_with (hex_of f) name n) (cache_in (rows_of f)))) (sym several_are)
     ∙ ap (option_and_then (λ t. option_and_then (λ n. option_map (run_with (hex_of f) t n) (cache_in (rows_of f))) (workers_in 0 (rows_of f))))
@@ -104,10 +104,10 @@ no-audit f none = ap (option_and_then (λ name. option_and_then (λ workers.
     (none ∙ first_value-rows f (codes "SCRIPT"))
 
 -- with one it is audited with what the options give
-pub audit-read : (f : Found) (name : Text) (workers room : Option ℕ) → Some name ≡ first_value f (codes "SCRIPT")
-    → workers_in 1 (rows_of f) ≡ workers → cache_in (rows_of f) ≡ room
-    → option_and_then (λ n. option_map (audit name n) room) workers ≡ audit_in (rows_of f)
-audit-read f name workers room script several_are is =
+pub audit-read : (f : Found) (name : Text) (workers capacity : Option ℕ) → Some name ≡ first_value f (codes "SCRIPT")
+    → workers_in 1 (rows_of f) ≡ workers → cache_in (rows_of f) ≡ capacity
+    → option_and_then (λ n. option_map (audit name n) capacity) workers ≡ audit_in (rows_of f)
+audit-read f name workers capacity script several_are is =
     ap (λ (r : Option ℕ). option_and_then (λ n. option_map (audit name n) r) workers) (sym is)
     ∙ (ap (option_and_then (λ n. option_map (audit name n) (cache_in (rows_of f)))) (sym several_are)
     ∙ ap (option_and_then (λ t. option_and_then (λ n. option_map (audit t n) (cache_in (rows_of f))) (workers_in 1 (rows_of f))))
@@ -171,10 +171,10 @@ module _ (bits : ℕ) (E : Type 0) (G : List ℕ → Result ℕ E → Type 0) (o
           at (Some t) is ∙ outside low high t (λ h. let below = h.3 in refuses (h.0, omega (arith)))
 
 -- a server is run with what the options give
-pub serve-read : (f : Found) (workers room : Option ℕ) (journal : Option Text) → workers_in 0 (rows_of f) ≡ workers
-    → cache_in (rows_of f) ≡ room → journal ≡ first_value f (codes "journal")
-    → option_and_then (λ n. option_map (λ m. serve (several n) m journal) room) workers ≡ serve_in (rows_of f)
-serve-read f workers room journal several_are is given =
+pub serve-read : (f : Found) (workers capacity : Option ℕ) (journal : Option Text) → workers_in 0 (rows_of f) ≡ workers
+    → cache_in (rows_of f) ≡ capacity → journal ≡ first_value f (codes "journal")
+    → option_and_then (λ n. option_map (λ m. serve (several n) m journal) capacity) workers ≡ serve_in (rows_of f)
+serve-read f workers capacity journal several_are is given =
     ap (λ (r : Option ℕ). option_and_then (λ n. option_map (λ m. serve (several n) m journal) r) workers) (sym is)
     ∙ (ap (option_and_then (λ n. option_map (λ m. serve (several n) m journal) (cache_in (rows_of f)))) (sym several_are)
     ∙ ap (λ (j : Option Text). option_and_then (λ n. option_map (λ m. serve (several n) m j) (cache_in (rows_of f))) (workers_in 0 (rows_of f)))

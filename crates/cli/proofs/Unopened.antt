@@ -12,13 +12,13 @@ use Rattle.console_io.specs.declared.input.InputFault.TheVariants as input
 use Rattle.console_io.specs.declared.status.Status.TheVariants.{Failure}
 use Rattle.plan_stream.specs.declared.fault.PlanFault.TheVariants as fault
 use Rattle.script_run.specs.RunFaults.{fault_of_input}
-use Rattle.script_run.proofs.Told.{stops-unread}
+use Rattle.script_run.proofs.Unread.{stops-unread}
 use Rattle.script_run.specs.Messages.{run_fault_text}
 use Rattle.script_run.proofs.SharedTold.{ends-unread, stops-unread as seat-stops-unread}
 use Rattle.cli.specs.CommandLine.{Wanted, audit, check, draw, mend, plan, run}
 use Rattle.mend_run.specs.declared.running.MendFault.TheVariants as mending
 use Rattle.stream_mending.specs.Mended.{mended, told as told_of}
-use Rattle.unit_printing.specs.declared.json.decode_mode.DecodeMode.{DecodeMode}
+use Rattle.unit_printing.specs.declared.json.encoding.DecodeMode.{DecodeMode}
 use Rattle.unit_printing.proofs.Ends.{ends-unread as ends-unread-json}
 use Rattle.cli.specs.Programs.{Ends, FailsAt, StopsScript, says_json}
 
@@ -87,25 +87,25 @@ module _ (files : Files) (standard : Option (List ℕ)) (told : Result (Unit {0}
       (fault.Memory, some-all (text_named files standard name) (λ text. Keeps-refl old), tells)
 
   -- of a run
-  pub run-unopened : (name : Bor (List ℕ)) (workers : Option ℕ) (room : ℕ) (hex : Bool) (it : InputFault)
+  pub run-unopened : (name : Bor (List ℕ)) (workers : Option ℕ) (capacity : ℕ) (hex : Bool) (it : InputFault)
       → Tells told mute had has (input_fault_text name.now it)
-      → EndsAt (run name.now workers room hex)
-  run-unopened name workers room hex it tells = failed (run name.now workers room hex) (
+      → EndsAt (run name.now workers capacity hex)
+  run-unopened name workers capacity hex it tells = failed (run name.now workers capacity hex) (
     fault_of_input name it,
     some-all (text_named files standard name.now) (λ text. unread workers text),
     told-so told mute had has name it tells,
   )
     where
       unread : (workers : Option ℕ) (text : List ℕ)
-          → StopsScript workers files name.now text room hex (fault_of_input name it) refused old old
-      unread None text = stops-unread says_json files name text room hex it refused old
+          → StopsScript workers files name.now text capacity hex (fault_of_input name it) refused old old
+      unread None text = stops-unread says_json files name text capacity hex it refused old
       unread (Some count) text = seat-stops-unread files name text hex it refused old
 
   -- of an audit
-  pub audit-unopened : (name : Bor (List ℕ)) (workers room : ℕ) (it : InputFault)
+  pub audit-unopened : (name : Bor (List ℕ)) (workers capacity : ℕ) (it : InputFault)
       → Tells told mute had has (input_fault_text name.now it)
-      → EndsAt (audit name.now workers room)
-  audit-unopened name workers room it tells = failed (audit name.now workers room) (inr (
+      → EndsAt (audit name.now workers capacity)
+  audit-unopened name workers capacity it tells = failed (audit name.now workers capacity) (inr (
     fault_of_input name it,
     some-all (text_named files standard name.now) (λ text. ends-unread files name text it refused old),
     told-so told mute had has name it tells,

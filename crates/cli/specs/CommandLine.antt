@@ -13,9 +13,9 @@ use Rattle.clap.specs.declared.builder.ValueParser.{ValueParser}
 use Rattle.clap.specs.declared.builder.ValueParser.TheVariants.{Signed}
 use Rattle.clap.specs.declared.error.ErrorKind.{ErrorKind}
 use Rattle.clap.specs.declared.error.ErrorKind.TheVariants.{DisplayHelp, DisplayVersion, MissingRequiredArgument, OutOfMemory}
-use Rattle.held_pictures.specs.Bounded.{most_room}
-use Rattle.unit_printing.specs.declared.json.decode_mode.DecodeMode.{DecodeMode}
-use Rattle.unit_printing.specs.declared.json.decode_mode.DecodeMode.TheVariants.{SliceBased, FrameBased}
+use Rattle.held_pictures.specs.Bounded.{most_capacity}
+use Rattle.unit_printing.specs.declared.json.encoding.DecodeMode.{DecodeMode}
+use Rattle.unit_printing.specs.declared.json.encoding.DecodeMode.TheVariants.{SliceBased, FrameBased}
 use Rattle.cli.specs.Bounds.{most_drawn, most_id, most_workers}
 use Rattle.cli.specs.declared.invocation.Invocation.{Invocation}
 use Rattle.cli.specs.declared.invocation.Invocation.TheVariants.{Audit, Check, Draw, DrawEdited, Mend, Plan, Run, Serve}
@@ -81,7 +81,7 @@ some_workers_rule = option_rule (codes "workers") (Signed (pos 1) (pos most_work
 
 -- `--cache N`, from 1 to 4096, and 64 where it isn't given
 abbrev pub cache_rule : Rule
-cache_rule = option_rule (codes "cache") (Signed (pos 1) (pos most_room)) (codes "64")
+cache_rule = option_rule (codes "cache") (Signed (pos 1) (pos most_capacity)) (codes "64")
 
 -- `run SCRIPT [--workers N] [--cache N] [--hex]`
 abbrev pub run_app : App
@@ -151,7 +151,7 @@ number_of name low high rows = option_and_then (number_in low high) (one_of name
 
 -- the room for pictures that is asked for
 abbrev pub cache_in : List Row → Option ℕ
-cache_in rows = number_of (codes "cache") 1 most_room rows
+cache_in rows = number_of (codes "cache") 1 most_capacity rows
 
 -- how many workers are, in these bounds
 abbrev pub workers_in : ℕ → List Row → Option ℕ
@@ -221,19 +221,19 @@ draw_in rows = option_and_then (λ name. option_and_then (λ from.
 -- what the words after `run` ask for
 abbrev pub run_in : List Row → Option Wanted
 run_in rows = option_and_then (λ name. option_and_then (λ workers.
-    option_map (λ room. run name (several workers) room (has_flag (codes "hex") rows)) (cache_in rows))
+    option_map (λ capacity. run name (several workers) capacity (has_flag (codes "hex") rows)) (cache_in rows))
     (workers_in 0 rows)) (first_of (codes "SCRIPT") rows)
 
 -- what the words after `audit` ask for
 abbrev pub audit_in : List Row → Option Wanted
 audit_in rows = option_and_then (λ name. option_and_then (λ workers.
-    option_map (λ room. audit name workers room) (cache_in rows))
+    option_map (λ capacity. audit name workers capacity) (cache_in rows))
     (workers_in 1 rows)) (first_of (codes "SCRIPT") rows)
 
 -- what the words after `serve` ask for
 abbrev pub serve_in : List Row → Option Wanted
 serve_in rows =
-    option_and_then (λ workers. option_map (λ room. serve (several workers) room (first_of (codes "journal") rows)) (cache_in rows))
+    option_and_then (λ workers. option_map (λ capacity. serve (several workers) capacity (first_of (codes "journal") rows)) (cache_in rows))
     (workers_in 0 rows)
 
 -- what a subcommand and the words after it ask for

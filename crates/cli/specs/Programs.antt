@@ -17,7 +17,7 @@ use Rattle.unit_printing.specs.Ends.{FailsJson, WritesJsonFor}
 use Rattle.plan_stream.specs.Faults.{plan_fault_text}
 use Rattle.plan_stream.specs.Plans.{EndsBy, WritesPlan}
 use Rattle.plan_stream.specs.declared.fault.PlanFault.{PlanFault}
-use Rattle.stream_check.specs.Found.{IsFine}
+use Rattle.stream_check.specs.CheckResult.{IsFine}
 use Rattle.stream_mending.specs.Mended.{mended, told as told_of}
 use Rattle.stream_mending.specs.Mending.{IsFrontOf}
 use Rattle.stream_mending.specs.declared.why.LeftOut.{LeftOut}
@@ -42,15 +42,15 @@ says_json line text = ⊤
 
 -- a script was run: by a session in one thread, or by a desk's only seat beside workers
 abbrev pub RunsScript : Option ℕ → Files → List ℕ → ℕ → Bool → Option (List ℕ) → Option (List ℕ) → Type 0
-RunsScript None files text room hex old new = WritesScript says_json files text room hex old new
-RunsScript (Some workers) files text room hex old new = WritesSeatScript files text hex old new
+RunsScript None files text capacity hex old new = WritesScript says_json files text capacity hex old new
+RunsScript (Some workers) files text capacity hex old new = WritesSeatScript files text hex old new
 
 -- a script wasn't run to its end by this fault
 abbrev pub StopsScript : Option ℕ → Files → List ℕ → List ℕ → ℕ → Bool → RunFault → Type 0
     → Option (List ℕ) → Option (List ℕ) → Type 0
-StopsScript None files name text room hex fault refused old new =
-    StopsBy says_json files name text room hex fault refused old new
-StopsScript (Some workers) files name text room hex fault refused old new =
+StopsScript None files name text capacity hex fault refused old new =
+    StopsBy says_json files name text capacity hex fault refused old new
+StopsScript (Some workers) files name text capacity hex fault refused old new =
     StopsSeatBy files name text hex fault refused old new
 
 -- what is asked for was done, of what its names stand for, and nothing was told; but of a drawing
@@ -75,11 +75,11 @@ IsDone files standard (draw_edited name script from units) told old new mute had
     × IfSome (text_named files standard name) (λ text. IfSome (text_named files standard script) (λ edits.
     WritesEdited from units text edits refusals old new))
     × Tells told mute had has refusals
-IsDone files standard (run name workers room hex) told old new mute had has =
-    IfSome (text_named files standard name) (λ text. RunsScript workers files text room hex old new) × Keeps had has
-IsDone files standard (audit name workers room) told old new mute had has =
+IsDone files standard (run name workers capacity hex) told old new mute had has =
+    IfSome (text_named files standard name) (λ text. RunsScript workers files text capacity hex old new) × Keeps had has
+IsDone files standard (audit name workers capacity) told old new mute had has =
     IfSome (text_named files standard name) (λ text. WritesAgreed files text old new) × Keeps had has
-IsDone files standard (serve workers room journal) told old new mute had has = Keeps had has
+IsDone files standard (serve workers capacity journal) told old new mute had has = Keeps had has
 
 -- it ended by a fault, which was told; of the two outputs it is said whether each refused, and what
 -- it had and has
@@ -106,16 +106,16 @@ FailsAt files standard (draw_edited name script from units) told refused old new
     × Tells told mute had has (edits_fault_text fault))
     ⊎ ((fault : InputFault) × Keeps old new
     × (Tells told mute had has (input_fault_text name fault) ⊎ Tells told mute had has (input_fault_text script fault)))
-FailsAt files standard (run name workers room hex) told refused old new mute had has =
+FailsAt files standard (run name workers capacity hex) told refused old new mute had has =
     (fault : RunFault)
     × IfSome (text_named files standard name) (λ text.
-    StopsScript workers files name text room hex fault refused old new)
+    StopsScript workers files name text capacity hex fault refused old new)
     × Tells told mute had has (run_fault_text fault)
-FailsAt files standard (audit name workers room) told refused old new mute had has =
+FailsAt files standard (audit name workers capacity) told refused old new mute had has =
     FailsAudit files name (text_named files standard name) told refused old new mute had has
-FailsAt files standard (serve workers room None) told refused old new mute had has =
+FailsAt files standard (serve workers capacity None) told refused old new mute had has =
     (end : ServeEnd) × Tells told mute had has (end_text end)
-FailsAt files standard (serve workers room (Some name)) told refused old new mute had has =
+FailsAt files standard (serve workers capacity (Some name)) told refused old new mute had has =
     ((end : ServeEnd) × Tells told mute had has (end_text end))
     ⊎ ((fault : JournalFault) × Keeps old new × Tells told mute had has (journal_fault_text name fault))
 

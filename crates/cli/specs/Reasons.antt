@@ -22,9 +22,9 @@ AreReasons files (check name json) lines = lines ≡ []
 AreReasons files (draw name from units) lines = MayHaveFile (files name) name lines
 AreReasons files (draw_edited name script from units) lines =
     MayHaveFile (files name) name lines ⊎ AreScriptLines Edits files script lines
-AreReasons files (run name workers room hex) lines = AreScriptLines (kind_beside workers) files name lines
-AreReasons files (audit name workers room) lines = AreScriptLines Seat files name lines
-AreReasons files (serve workers room journal) lines = lines ≡ []
+AreReasons files (run name workers capacity hex) lines = AreScriptLines (kind_beside workers) files name lines
+AreReasons files (audit name workers capacity) lines = AreScriptLines Seat files name lines
+AreReasons files (serve workers capacity journal) lines = lines ≡ []
 
 -- nothing is said, or that of what the words ask for
 abbrev pub MayHaveReasons : Files → List Text → List ℕ → Type 0

@@ -1,7 +1,7 @@
 //! What a command line asks for.
 
 ghost use Rattle.std.specs.Prelude.{◌≤◌};
-ghost use Rattle.held_pictures.specs.Bounded.{most_room};
+ghost use Rattle.held_pictures.specs.Bounded.{most_capacity};
 ghost use Rattle.cli.specs.Bounds.{most_workers};
 
 use draw_run::{Choice, EditedChoice};
@@ -73,5 +73,5 @@ pub struct Serving<'a> {
     pub cache: u16,
     /// The file in which edits are recorded, if they are.
     pub journal: Option<&'a str>,
-    ghost room: { (1 ≤ cache) × (cache ≤ most_room) },
+    ghost capacity: { (1 ≤ cache) × (cache ≤ most_capacity) },
 }

@@ -2,7 +2,7 @@
 
 ghost use Rattle.std.specs.Prelude.{◌≡◌, ◌≤◌, IfOk, IfSome, Some, codes, false, map, option_map};
 ghost use Rattle.clap.specs.Words.{FailsBy, app_of, found_of, rows_of, rule_of, subcommand_rows_of};
-ghost use Rattle.held_pictures.specs.Bounded.{most_room};
+ghost use Rattle.held_pictures.specs.Bounded.{most_capacity};
 ghost use Rattle.cli.specs.Bounds.{most_id, most_workers};
 ghost use Rattle.cli.specs.CommandLine.{audit_app, audit_in, cache_in, cache_rule, draw_app, draw_in, drawing, edits_rule, faults_of, flag_rule, from_in, from_rule, has_flag, needed_rule};
 ghost use Rattle.cli.specs.CommandLine.{number_of, option_rule, preview_app, run_app, run_in, several};
@@ -17,7 +17,7 @@ use clap::builder::ValueParser;
 use clap::error::ErrorKind;
 use clap::{Arg, ArgAction, ArgMatches, Command, Error, value_parser};
 use draw_run::{Choice, EditedChoice, MOST_DRAWN};
-use script_run::{MOST_ROOM, Options};
+use script_run::{MOST_CAPACITY, Options};
 use std::alloc::{AllocError, Global};
 use std::convert::AsStr;
 use std::{env, io};
@@ -180,10 +180,10 @@ pub(crate) fn read_workers(matches: &ArgMatches<'_>, least: usize) -> Option<usi
 /// For how many pictures room is asked for.
 pub(crate) fn read_cache(matches: &ArgMatches<'_>) -> Option<u16>
     ensures number { result ≡ cache_in (rows_of (found_of matches.now)) }
-    ensures range { IfSome result (λ room. (1 ≤ room) × (room ≤ most_room)) }
+    ensures range { IfSome result (λ capacity. (1 ≤ capacity) × (capacity ≤ most_capacity)) }
 {
     let cache = matches.get_one::<u16>("cache")?;
-    if cache == 0 || cache > MOST_ROOM {
+    if cache == 0 || cache > MOST_CAPACITY {
         return None;
     }
     Some(cache)
@@ -329,9 +329,9 @@ pub(crate) fn cache_option<'a>(alloc: Global) -> Arg<'a>
     ensures rule { rule_of result ≡ cache_rule }
     ensures local { result.global ≡ false }
 {
-    let room = value_parser!(u16).range(1..=MOST_ROOM as i64);
+    let capacity = value_parser!(u16).range(1..=MOST_CAPACITY as i64);
     let help = "For how many pictures that no unit has there is room, 1 to 4096";
-    number_option(alloc, "cache", room, "64", help)
+    number_option(alloc, "cache", capacity, "64", help)
 }
 
 /// An argument that has to be there.

@@ -12,7 +12,7 @@ use console_io::file_saving::Saving;
 use console_io::{Console, Directory, Ended, Files, Inputs, Sink, Status};
 use failure_reasons::Explain;
 use serve_run::{ServeEnd, Service, say_end, say_journal_fault, serve_alone, serve_with_workers};
-use session_journal::{Journals, Step};
+use session_journal::{Journals, RecordedStep};
 use std::alloc::Global;
 use std::io::Read;
 use std::sync::Wait;
@@ -64,7 +64,7 @@ fn serve_from<D: Directory + Explain + Saving + Journals, I: Read + Drop, W: Sin
     threads: &(impl Threads + Wait + Sync),
     alloc: Global,
     serving: Serving<'_>,
-    journal: Option<(D::Journal, Vec<Step>)>,
+    journal: Option<(D::Journal, Vec<RecordedStep>)>,
     inputs: Inputs<'_, D, I>,
     output: &mut W,
 ) -> ServeEnd {

@@ -1,7 +1,7 @@
 //! `serve`.
 
 ghost use Rattle.std.specs.Prelude.{◌≡◌, ◌≤◌, IfOk, false, option_map};
-ghost use Rattle.held_pictures.specs.Bounded.{most_room};
+ghost use Rattle.held_pictures.specs.Bounded.{most_capacity};
 ghost use Rattle.clap.specs.Words.{app_of, found_of, rows_of, rule_of};
 ghost use Rattle.cli.specs.CommandLine.{journal_rule, serve, serve_app, serve_in, wanted_of};
 
@@ -21,7 +21,7 @@ pub(crate) fn read_serve<'a>(serve: &ArgMatches<'a>) -> Option<Invocation<'a>>
 
 /// A server with these workers, so much room and this journal, if there is one.
 fn serving<'a>(workers: Option<Workers>, cache: u16, journal: Option<&'a str>) -> Invocation<'a>
-    requires { (1 ≤ cache) × (cache ≤ most_room) }
+    requires { (1 ≤ cache) × (cache ≤ most_capacity) }
     ensures { wanted_of result ≡ serve (option_map (λ workers. workers.count) workers) cache
         (option_map (λ name. name.now) journal.entry) }
 {

@@ -1,6 +1,6 @@
 -- Files that are saved whole.
 use Rattle.std.specs.Prelude.{◌≡◌, ℕ, List, Option, IfSome, Result, Ok, Err, flat_map}
-use Rattle.console_io.specs.declared.file_saving.unsaved.Unsaved.{Unsaved}
+use Rattle.console_io.specs.declared.file_saving.folder.Unsaved.{Unsaved}
 
 -- the bytes of texts, one after the other
 abbrev pub joined : List (List ℕ) → List ℕ

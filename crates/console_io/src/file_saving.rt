@@ -9,11 +9,9 @@
 mod folder;
 mod host;
 mod saver;
-mod unsaved;
 
-pub use folder::{Folder, save_in};
+pub use folder::{Folder, Unsaved, save_in};
 pub use saver::{Saver, Saving};
-pub use unsaved::Unsaved;
 
 #[cfg(test)]
 mod tests;

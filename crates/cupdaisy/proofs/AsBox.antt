@@ -8,14 +8,14 @@ use Rattle.std_heap.specs.contracts.GlobalAllocator.TheImpl.{ghosts, dict}
 use Rattle.std_heap.proofs.Global.TheLaws as heap
 use Rattle.c_calls.specs.contracts.surface_session.SurfaceSession as Session
 use Rattle.c_calls.proofs.surface_session.SurfaceSession.TheLaws as session
-use Rattle.cupdaisy.specs.contracts.held.parts.Parts as Parts
+use Rattle.cupdaisy.specs.contracts.held.parts.RawParts as RawParts
 use Rattle.cupdaisy.specs.contracts.held.Held as Held
 
 abbrev pub E : Bx
 E = record { row = Session.the_row; laws = session.the_row_laws; al = record { row = Heap.the_row; laws = heap.the_row_laws; g = ghosts; d = dict; drops = impl [] tnil dnil } }
 
 abbrev pub FromParts : Slot 0
-FromParts = plain (λ _. Parts.the_row Session.the_row Heap.the_row ghosts)
+FromParts = plain (λ _. RawParts.the_row Session.the_row Heap.the_row ghosts)
 
 abbrev pub FromHeld : Slot 0
 FromHeld = plain (λ _. Held.the_row)

@@ -6,25 +6,25 @@ use Rattle.c_calls.specs.Statuses.{no_session}
 -- without a session the call says so, tells nothing and changes nothing; else it does this with the
 -- session
 abbrev pub Does : {A : Type 0} → Option Machine → ℕ → A → A → Option Machine → (Machine → Machine → Type 0) → Type 0
-Does None status told tells new does = (status ≡ no_session) × (tells ≡ told) × (new ≡ None)
-Does (Some machine) status told tells new does = (next : Machine) × (new ≡ Some next) × does machine next
+Does None status before after new does = (status ≡ no_session) × (after ≡ before) × (new ≡ None)
+Does (Some machine) status before after new does = (next : Machine) × (new ≡ Some next) × does machine next
 
 -- the same for a call that tells two things
 abbrev pub DoesTwo : {A B : Type 0} → Option Machine → ℕ → A → A → B → B → Option Machine → (Machine → Machine → Type 0) → Type 0
-DoesTwo None status told tells other others new does =
-    (status ≡ no_session) × (tells ≡ told) × (others ≡ other) × (new ≡ None)
-DoesTwo (Some machine) status told tells other others new does = (next : Machine) × (new ≡ Some next) × does machine next
+DoesTwo None status before after other others new does =
+    (status ≡ no_session) × (after ≡ before) × (others ≡ other) × (new ≡ None)
+DoesTwo (Some machine) status before after other others new does = (next : Machine) × (new ≡ Some next) × does machine next
 
 -- the same for a question, which never changes the session
 abbrev pub Asks : {A : Type 0} → Option Machine → ℕ → A → A → Option Machine → (Machine → Type 0) → Type 0
-Asks None status told tells new asks = (status ≡ no_session) × (tells ≡ told) × (new ≡ None)
-Asks (Some machine) status told tells new asks = (new ≡ Some machine) × asks machine
+Asks None status before after new asks = (status ≡ no_session) × (after ≡ before) × (new ≡ None)
+Asks (Some machine) status before after new asks = (new ≡ Some machine) × asks machine
 
 -- the same for a question that tells two things
 abbrev pub AsksTwo : {A B : Type 0} → Option Machine → ℕ → A → A → B → B → Option Machine → (Machine → Type 0) → Type 0
-AsksTwo None status told tells other others new asks =
-    (status ≡ no_session) × (tells ≡ told) × (others ≡ other) × (new ≡ None)
-AsksTwo (Some machine) status told tells other others new asks = (new ≡ Some machine) × asks machine
+AsksTwo None status before after other others new asks =
+    (status ≡ no_session) × (after ≡ before) × (others ≡ other) × (new ≡ None)
+AsksTwo (Some machine) status before after other others new asks = (new ≡ Some machine) × asks machine
 
 -- the same for a change that tells nothing but its status
 abbrev pub Changes : Option Machine → ℕ → Option Machine → (Machine → Machine → Type 0) → Type 0

@@ -1,21 +1,21 @@
 -- Sessions that are opened and closed.
 use Rattle.std.specs.Prelude.{◌≡◌, ◌≤◌, ◌⊎◌, ℕ, Option, None, Some}
-use Rattle.held_pictures.specs.Bounded.{most_room}
+use Rattle.held_pictures.specs.Bounded.{most_capacity}
 use Rattle.c_calls.specs.Machines.{Machine}
 use Rattle.stream_session.specs.Machines.{empty}
 use Rattle.c_calls.specs.Statuses.{cache_range, done, is_open, memory, no_session}
 
 -- a cache may have so much room
-abbrev pub IsRoom : ℕ → Type 0
-IsRoom cache = (1 ≤ cache) × (cache ≤ most_room)
+abbrev pub IsCapacity : ℕ → Type 0
+IsCapacity cache = (1 ≤ cache) × (cache ≤ most_capacity)
 
 -- a session with an empty stream is there, or the room of its cache may not be, or memory was
 -- refused
 abbrev pub OpensNone : ℕ → ℕ → Option Machine → Type 0
 OpensNone cache status new =
-    (IsRoom cache × (status ≡ done) × (new ≡ Some (empty cache)))
-    ⊎ ((IsRoom cache → ⊥) × (status ≡ cache_range) × (new ≡ None))
-    ⊎ (IsRoom cache × (status ≡ memory) × (new ≡ None))
+    (IsCapacity cache × (status ≡ done) × (new ≡ Some (empty cache)))
+    ⊎ ((IsCapacity cache → ⊥) × (status ≡ cache_range) × (new ≡ None))
+    ⊎ (IsCapacity cache × (status ≡ memory) × (new ≡ None))
 
 -- a handle is opened; one that has a session keeps it
 abbrev pub Opens : Option Machine → ℕ → ℕ → Option Machine → Type 0

@@ -2,7 +2,7 @@
 
 ghost use Rattle.stream_edits.specs.Streams.{end_of};
 ghost use Rattle.stream_edits.specs.declared.edits.Edit.TheVariants.{Delete, Insert, Replace};
-ghost use Rattle.stream_edits.specs.declared.edits.Place.TheVariants.{After, First};
+ghost use Rattle.stream_edits.specs.declared.edits.InsertionPoint.TheVariants.{After, First};
 ghost use Rattle.c_calls.specs.Editing.{EditsBy, EditsByCopy};
 ghost use Rattle.c_calls.specs.Grouping.{GroupsTo};
 ghost use Rattle.c_calls.specs.Loading.{LoadsTo};
@@ -10,11 +10,12 @@ ghost use Rattle.cupdaisy.specs.Calls.{Does, DoesTwo};
 
 use crate::Handle;
 use c_calls::{
-    EditAsked, EditReceipt, GroupTold, LoadTold, NO_SESSION, delete, insert, insert_last, replace,
+    EditReceipt, EditsReceipt, GivenEdit, LoadReceipt, NO_SESSION, delete, insert, insert_last,
+    replace,
 };
 use h264_types::pictures::AuId;
 use std::alloc::Global;
-use stream_edits::Place;
+use stream_edits::InsertionPoint;
 
 /// Inserts a unit before all others.
 #[unsafe(no_mangle)]
@@ -30,7 +31,7 @@ pub extern "C" fn cupdaisy_insert_first(
     let Some(mut inner) = session.take(alloc) else {
         return NO_SESSION;
     };
-    let status = insert(alloc, &mut inner, Place::First, text, receipt);
+    let status = insert(alloc, &mut inner, InsertionPoint::First, text, receipt);
     session.put(inner);
     status
 }
@@ -54,7 +55,7 @@ pub extern "C" fn cupdaisy_insert_after(
     let status = insert(
         alloc,
         &mut inner,
-        Place::After(AuId::new(id)),
+        InsertionPoint::After(AuId::new(id)),
         text,
         receipt,
     );
@@ -126,10 +127,10 @@ pub extern "C" fn cupdaisy_replace(
 pub extern "C" fn cupdaisy_group(
     alloc: Global,
     session: &mut Handle,
-    edits: &[EditAsked],
+    edits: &[GivenEdit],
     texts: &[u8],
     ids: &mut [u32],
-    receipt: &mut GroupTold,
+    receipt: &mut EditsReceipt,
 ) -> u32
     ensures { DoesTwo session.old.held.state result ids.old ids.new receipt.old receipt.new
         session.new.held.state
@@ -150,7 +151,7 @@ pub extern "C" fn cupdaisy_load(
     alloc: Global,
     session: &mut Handle,
     text: &[u8],
-    receipt: &mut LoadTold,
+    receipt: &mut LoadReceipt,
 ) -> u32
     ensures { Does session.old.held.state result receipt.old receipt.new session.new.held.state
         (λ old new. LoadsTo old text.now result receipt.new new) }

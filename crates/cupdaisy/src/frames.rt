@@ -4,7 +4,7 @@ ghost use Rattle.c_calls.specs.Frames.{FillsFrame, TellsFrame, slices_of_job, sl
 ghost use Rattle.cupdaisy.specs.Calls.{Asks, AsksTwo};
 
 use crate::Handle;
-use c_calls::{FrameTold, NO_SESSION};
+use c_calls::{NO_SESSION, PictureRequest};
 use std::alloc::Global;
 
 /// The request of the picture of the unit of the id, as the stream is now.
@@ -13,7 +13,7 @@ pub extern "C" fn cupdaisy_unit_frame(
     alloc: Global,
     session: &mut Handle,
     id: u32,
-    frame: &mut FrameTold,
+    frame: &mut PictureRequest,
 ) -> u32
     ensures { Asks session.old.held.state result frame.old frame.new session.new.held.state
         (λ machine. TellsFrame (slices_of_unit machine id) result frame.old frame.new) }
@@ -55,7 +55,7 @@ pub extern "C" fn cupdaisy_job_frame(
     alloc: Global,
     session: &mut Handle,
     job: u64,
-    frame: &mut FrameTold,
+    frame: &mut PictureRequest,
 ) -> u32
     ensures { Asks session.old.held.state result frame.old frame.new session.new.held.state
         (λ machine. TellsFrame (slices_of_job machine job) result frame.old frame.new) }

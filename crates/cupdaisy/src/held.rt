@@ -6,7 +6,7 @@ ghost use Rattle.cupdaisy.specs.Ownership.{State, held_owns, state_coded};
 mod parts;
 
 use c_calls::SurfaceSession;
-use parts::Parts;
+use parts::RawParts;
 use std::alloc::Global;
 use std::marker::Model;
 
@@ -44,25 +44,25 @@ impl Held {
     pub fn of(session: Box<SurfaceSession, Global>) -> Held
         ensures { result.state ≡ Some session.value }
     {
-        Held::of_parts(Parts::of(session))
+        Held::of_parts(RawParts::of(session))
     }
 
-    fn of_parts(parts: Parts<SurfaceSession, Global>) -> Held
+    fn of_parts(parts: RawParts<SurfaceSession, Global>) -> Held
         ensures { result.state ≡ Some parts.value }
     {
-        let Parts { ptr, alloc } = parts;
+        let RawParts { ptr, alloc } = parts;
         Held {
             at: ptr.cast(),
             alloc,
         }
     }
 
-    fn into_parts(self) -> Parts<SurfaceSession, Global>
+    fn into_parts(self) -> RawParts<SurfaceSession, Global>
         requires { is_some self.state ≡ true }
         ensures { self.state ≡ Some result.value }
     {
         let Held { at, alloc } = self;
-        Parts {
+        RawParts {
             ptr: at.cast(),
             alloc,
         }

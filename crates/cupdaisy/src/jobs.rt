@@ -2,7 +2,7 @@
 
 ghost use Rattle.std.specs.Prelude.{IfSome};
 ghost use Rattle.c_calls.specs.Jobs.{GivesBackTo, IsMadeFor, LandsTo, TakesForTo, TakesTo};
-ghost use Rattle.c_calls.specs.JobInputs.{input_told, reference_told};
+ghost use Rattle.c_calls.specs.JobInputs.{input_answer, reference_answer};
 ghost use Rattle.c_calls.specs.Telling.{Tells};
 ghost use Rattle.stream_session.specs.Taken.{input_of};
 ghost use Rattle.cupdaisy.specs.Calls.{Asks, Changes, Does};
@@ -83,7 +83,7 @@ pub extern "C" fn cupdaisy_job_input_of(
     input: &mut JobInput,
 ) -> u32
     ensures { Asks session.old.held.state result input.old input.new session.new.held.state
-        (λ machine. Tells (input_told (input_of machine job)) result input.old input.new) }
+        (λ machine. Tells (input_answer (input_of machine job)) result input.old input.new) }
 {
     let Some(inner) = session.take(alloc) else {
         return NO_SESSION;
@@ -103,7 +103,7 @@ pub extern "C" fn cupdaisy_job_reference(
     reference: &mut JobReference,
 ) -> u32
     ensures { Asks session.old.held.state result reference.old reference.new session.new.held.state
-        (λ machine. Tells (reference_told (input_of machine job) index) result reference.old
+        (λ machine. Tells (reference_answer (input_of machine job) index) result reference.old
         reference.new) }
 {
     let Some(inner) = session.take(alloc) else {

@@ -1,8 +1,8 @@
 //! The journal.
 
 ghost use Rattle.std.specs.Prelude.{◌≡◌, length};
-ghost use Rattle.c_calls.specs.Journals.{FillsText, edit_in, edits_at, told_journal};
-ghost use Rattle.c_calls.specs.Requests.{told_as};
+ghost use Rattle.c_calls.specs.Journals.{FillsText, edit_in, edits_at, as_journal_edit};
+ghost use Rattle.c_calls.specs.Requests.{laid_out};
 ghost use Rattle.c_calls.specs.Statuses.{done};
 ghost use Rattle.c_calls.specs.Telling.{Tells};
 ghost use Rattle.cupdaisy.specs.Calls.{Asks, AsksTwo};
@@ -54,7 +54,7 @@ pub extern "C" fn cupdaisy_journal_edit_at(
     edit: &mut JournalEdit,
 ) -> u32
     ensures { Asks session.old.held.state result edit.old edit.new session.new.held.state
-        (λ machine. Tells (told_as told_journal (edit_in machine entry index)) result edit.old
+        (λ machine. Tells (laid_out as_journal_edit (edit_in machine entry index)) result edit.old
         edit.new) }
 {
     let Some(inner) = session.take(alloc) else {

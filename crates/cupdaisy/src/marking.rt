@@ -1,7 +1,7 @@
 //! Marks of the stream, and the units that are altered since.
 
 ghost use Rattle.std.specs.Prelude.{ℕ, Result};
-ghost use Rattle.c_calls.specs.Marking.{IsAlteredTold, MarksTo};
+ghost use Rattle.c_calls.specs.Marking.{IsAlteredAnswer, MarksTo};
 ghost use Rattle.c_calls.specs.Telling.{Tells};
 ghost use Rattle.cupdaisy.specs.Calls.{Asks, Changes};
 
@@ -32,7 +32,7 @@ pub extern "C" fn cupdaisy_is_altered(
     altered: &mut u32,
 ) -> u32
     ensures { Asks session.old.held.state result altered.old altered.new session.new.held.state
-        (λ machine. (answer : Result ℕ ℕ) × IsAlteredTold machine id answer
+        (λ machine. (answer : Result ℕ ℕ) × IsAlteredAnswer machine id answer
         × Tells answer result altered.old altered.new) }
 {
     let Some(inner) = session.take(alloc) else {

@@ -2,7 +2,7 @@
 
 ghost use Rattle.c_calls.specs.Mending.{MendsTo};
 
-use c_calls::LeftOutTold;
+use c_calls::LeftOutBytes;
 use std::alloc::Global;
 
 /// Writes what stays of the text, and tells what is left out.
@@ -12,7 +12,7 @@ pub extern "C" fn cupdaisy_mend(
     text: &[u8],
     bytes: &mut [u8],
     needed: &mut usize,
-    left_out: &mut [LeftOutTold],
+    left_out: &mut [LeftOutBytes],
     count: &mut usize,
 ) -> u32
     ensures { MendsTo text.now result bytes.old bytes.new needed.old needed.new left_out.old

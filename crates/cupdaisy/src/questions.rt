@@ -5,13 +5,13 @@ ghost use Rattle.c_calls.specs.Doubting.{TellsDoubts};
 ghost use Rattle.c_calls.specs.Finding.{IsAtPosition};
 ghost use Rattle.c_calls.specs.Keys.{IsKeyOf, TellsUse};
 ghost use Rattle.c_calls.specs.Showing.{ShowsTo};
-ghost use Rattle.c_calls.specs.Asking.{id_at, outcome_told, place_told, position_told};
+ghost use Rattle.c_calls.specs.Asking.{id_at, outcome_answer, place_answer, position_answer};
 ghost use Rattle.c_calls.specs.Statuses.{done};
 ghost use Rattle.c_calls.specs.Telling.{Tells};
 ghost use Rattle.cupdaisy.specs.Calls.{Asks, AsksTwo};
 
 use crate::Handle;
-use c_calls::{DoubtTold, NO_SESSION, UnitOutcome};
+use c_calls::{NO_SESSION, UnitDoubt, UnitOutcome};
 use std::alloc::Global;
 
 /// How many units the stream has.
@@ -56,7 +56,7 @@ pub extern "C" fn cupdaisy_place(
     place: &mut usize,
 ) -> u32
     ensures { Asks session.old.held.state result place.old place.new session.new.held.state
-        (λ machine. Tells (place_told machine.register.stream id) result place.old place.new) }
+        (λ machine. Tells (place_answer machine.register.stream id) result place.old place.new) }
 {
     let Some(inner) = session.take(alloc) else {
         return NO_SESSION;
@@ -75,7 +75,7 @@ pub extern "C" fn cupdaisy_position(
     position: &mut usize,
 ) -> u32
     ensures { Asks session.old.held.state result position.old position.new session.new.held.state
-        (λ machine. Tells (position_told machine.register.stream id) result position.old
+        (λ machine. Tells (position_answer machine.register.stream id) result position.old
         position.new) }
 {
     let Some(inner) = session.take(alloc) else {
@@ -115,7 +115,7 @@ pub extern "C" fn cupdaisy_outcome_of(
     outcome: &mut UnitOutcome,
 ) -> u32
     ensures { Asks session.old.held.state result outcome.old outcome.new session.new.held.state
-        (λ machine. Tells (outcome_told machine.register.stream id) result outcome.old
+        (λ machine. Tells (outcome_answer machine.register.stream id) result outcome.old
         outcome.new) }
 {
     let Some(inner) = session.take(alloc) else {
@@ -132,7 +132,7 @@ pub extern "C" fn cupdaisy_doubts(
     alloc: Global,
     session: &mut Handle,
     from: usize,
-    doubts: &mut [DoubtTold],
+    doubts: &mut [UnitDoubt],
     count: &mut usize,
 ) -> u32
     ensures { AsksTwo session.old.held.state result doubts.old doubts.new count.old count.new

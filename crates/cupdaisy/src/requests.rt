@@ -1,12 +1,12 @@
 //! The requests of units and of jobs.
 
-ghost use Rattle.c_calls.specs.Requests.{FillsFrom, request_layout, request_of_job, request_of_unit, told_as, weights_of};
+ghost use Rattle.c_calls.specs.Requests.{FillsFrom, request_layout, request_of_job, request_of_unit, laid_out, weights_of};
 ghost use Rattle.c_calls.specs.Telling.{Tells};
 ghost use Rattle.cupdaisy.specs.Calls.{Asks, AsksTwo};
 
 use crate::Handle;
 use c_calls::{NO_SESSION, SliceRequest};
-use frame_requests::layouts::PredWeights;
+use frame_requests::layouts::PredWeightsLayout;
 use std::alloc::Global;
 
 /// The request of a slice of the unit of the id, as the stream is now.
@@ -19,7 +19,7 @@ pub extern "C" fn cupdaisy_unit_request(
     request: &mut SliceRequest,
 ) -> u32
     ensures { Asks session.old.held.state result request.old request.new session.new.held.state
-        (λ machine. Tells (told_as request_layout (request_of_unit machine id slice)) result
+        (λ machine. Tells (laid_out request_layout (request_of_unit machine id slice)) result
         request.old request.new) }
 {
     let Some(inner) = session.take(alloc) else {
@@ -37,7 +37,7 @@ pub extern "C" fn cupdaisy_unit_weights(
     session: &mut Handle,
     id: u32,
     slice: usize,
-    weights: &mut PredWeights,
+    weights: &mut PredWeightsLayout,
 ) -> u32
     ensures { Asks session.old.held.state result weights.old weights.new session.new.held.state
         (λ machine. Tells (weights_of (request_of_unit machine id slice)) result weights.old
@@ -84,7 +84,7 @@ pub extern "C" fn cupdaisy_job_request(
     request: &mut SliceRequest,
 ) -> u32
     ensures { Asks session.old.held.state result request.old request.new session.new.held.state
-        (λ machine. Tells (told_as request_layout (request_of_job machine job slice)) result
+        (λ machine. Tells (laid_out request_layout (request_of_job machine job slice)) result
         request.old request.new) }
 {
     let Some(inner) = session.take(alloc) else {
@@ -102,7 +102,7 @@ pub extern "C" fn cupdaisy_job_weights(
     session: &mut Handle,
     job: u64,
     slice: usize,
-    weights: &mut PredWeights,
+    weights: &mut PredWeightsLayout,
 ) -> u32
     ensures { Asks session.old.held.state result weights.old weights.new session.new.held.state
         (λ machine. Tells (weights_of (request_of_job machine job slice)) result weights.old

@@ -3,7 +3,7 @@
 ghost use Rattle.std.specs.Prelude.{◌≡◌, ◌⊎◌, MatchResult};
 ghost use Rattle.stream_session.specs.Machines.{empty};
 ghost use Rattle.c_calls.specs.Statuses.{cache_range, memory};
-ghost use Rattle.cupdaisy.specs.Opening.{Closes, IsRoom, Opens};
+ghost use Rattle.cupdaisy.specs.Opening.{Closes, IsCapacity, Opens};
 
 use crate::Handle;
 use c_calls::{CACHE_RANGE, DONE, IS_OPEN, MEMORY, NO_SESSION, SurfaceSession};
@@ -31,8 +31,8 @@ pub extern "C" fn cupdaisy_open(alloc: Global, session: &mut Handle, cache: u16)
 /// A new session, or why there is none.
 fn opened(alloc: Global, cache: u16) -> Result<Box<SurfaceSession, Global>, u32>
     ensures { MatchResult result
-        (λ session. IsRoom cache × (session.value ≡ empty cache))
-        (λ why. ((IsRoom cache → ⊥) × (why ≡ cache_range)) ⊎ (IsRoom cache × (why ≡ memory))) }
+        (λ session. IsCapacity cache × (session.value ≡ empty cache))
+        (λ why. ((IsCapacity cache → ⊥) × (why ≡ cache_range)) ⊎ (IsCapacity cache × (why ≡ memory))) }
 {
     match SurfaceSession::new(alloc, Config { cache }) {
         Ok(session) => boxed(alloc, session),

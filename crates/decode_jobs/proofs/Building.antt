@@ -74,12 +74,12 @@ module _ {W : Type 0} where
       extends number found.0 found.1 ∙ sym found.1
 
   -- the tree of entries that are live stays
-  pub tree_stays : (keys more : KeyMap W) → Extends keys more → (work : W) (entries : List (Option ℕ)) → AreLive keys entries
-      → tree_from more work entries ≡ tree_from keys work entries
-  tree_stays keys more extends work [] live = refl
-  tree_stays keys more extends work (entry ∷ entries) live =
+  pub tree_stays : (keys more : KeyMap W) → Extends keys more → (content : W) (entries : List (Option ℕ)) → AreLive keys entries
+      → tree_from more content entries ≡ tree_from keys content entries
+  tree_stays keys more extends content [] live = refl
+  tree_stays keys more extends content (entry ∷ entries) live =
       let a : named more entry ≡ named keys entry = named_stays keys more extends entry live.0 in
-      let b : tree_from more work entries ≡ tree_from keys work entries = tree_stays keys more extends work entries live.1 in
+      let b : tree_from more content entries ≡ tree_from keys content entries = tree_stays keys more extends content entries live.1 in
       cc
 
   entered_same : (a b : Option (Tree W)) (s t : Tree W) → entered a s ≡ entered b t → (a ≡ b) × (s ≡ t)
@@ -176,7 +176,7 @@ module _ {W : Type 0} where
 
   row_stays : (keys more : KeyMap W) (slot : Slot W) → Extends keys more → IsRow keys slot → IsRow more slot
   row_stays keys more slot extends row = record {
-    tree = extends slot.0 (tree_of keys slot.1) row.tree ∙ ap Some (sym (tree_stays keys more extends slot.1.work slot.1.entries row.live));
+    tree = extends slot.0 (tree_of keys slot.1) row.tree ∙ ap Some (sym (tree_stays keys more extends slot.1.content slot.1.entries row.live));
     live = all_live_stay keys more extends slot.1.entries row.live;
   }
 
@@ -184,7 +184,7 @@ module _ {W : Type 0} where
   row_next keys slot next =
       let extends : Extends keys (grown keys slot) = at_front keys ((slot.0, tree_of keys slot.1) ∷ []) in
       record {
-        tree = at_added keys slot.0 (tree_of keys slot.1) next.unused ∙ ap Some (sym (tree_stays keys (grown keys slot) extends slot.1.work slot.1.entries next.live));
+        tree = at_added keys slot.0 (tree_of keys slot.1) next.unused ∙ ap Some (sym (tree_stays keys (grown keys slot) extends slot.1.content slot.1.entries next.live));
         live = all_live_stay keys (grown keys slot) extends slot.1.entries next.live;
       }
 

@@ -32,8 +32,8 @@ module _ {W : Type 0} where
   slot_of (slot ∷ slots) zero lt = (slot, refl)
   slot_of (slot ∷ slots) (suc place) lt = slot_of slots place (omega (arith, lt))
 
-  same_node : (a b : NodeOf W) → a.work ≡ b.work → a.entries ≡ b.entries → a ≡ b
-  same_node a b p q = λ i. record { work = p i; entries = q i }
+  same_node : (a b : NodeOf W) → a.content ≡ b.content → a.entries ≡ b.entries → a ≡ b
+  same_node a b p q = λ i. record { content = p i; entries = q i }
 
 module _ {W : Type 0} (digest : NodeOf W → List ℕ) (slots : List (Slot W)) (numbers : List ℕ) (fingerprints : List (List ℕ))
     (kept : AreKept digest slots numbers fingerprints) where
@@ -110,8 +110,8 @@ module _ {W : Type 0} (digest : NodeOf W → List ℕ) (slots : List (Slot W)) (
             let trees : Some (tree_of (grown_by [] slots) found.1.1) ≡ Some (tree_of (grown_by [] slots) node) =
             sym row.tree ∙ ap (tree_at (grown_by [] slots)) found.3 ∙ e in
             let same : tree_of (grown_by [] slots) found.1.1 ≡ tree_of (grown_by [] slots) node = cc in
-            let parts : (found.1.1.work ≡ node.work) × (found.1.1.entries ≡ node.entries) =
-            tree_same (grown_by [] slots) kept_one found.1.1.work node.work found.1.1.entries node.entries row.live live same in
+            let parts : (found.1.1.content ≡ node.content) × (found.1.1.entries ≡ node.entries) =
+            tree_same (grown_by [] slots) kept_one found.1.1.content node.content found.1.1.entries node.entries row.live live same in
             let nodes : found.1.1 ≡ node = same_node found.1.1 node parts.0 parts.1 in
             none found.0 found.1 (omega arith) found.2
             (ap (λ fs. at fs found.0) kept.indexed ∙ fingerprint_at digest slots found.0 found.1 found.2 ∙ ap digest nodes ∙ sym is)

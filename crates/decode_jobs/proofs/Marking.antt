@@ -108,10 +108,10 @@ pub roots_length : (marks : List Bool) (roots : List ℕ) → length (all_marked
 roots_length marks [] = refl
 roots_length marks (root ∷ roots) = roots_length (marked marks root) roots ∙ length-set marks root true
 
-pub none_marked : (room n : ℕ) → is_marked (replicate room false) n ≡ false
+pub none_marked : (bound n : ℕ) → is_marked (replicate bound false) n ≡ false
 none_marked zero n = refl
-none_marked (suc room) zero = refl
-none_marked (suc room) (suc n) = none_marked room n
+none_marked (suc bound) zero = refl
+none_marked (suc bound) (suc n) = none_marked bound n
 
 passed_cases : (b : Bool) (marks : List Bool) (entries : List (Option ℕ)) (n : ℕ) → is_marked marks n ≡ true
     → is_marked (cond b (named_marked marks entries) marks) n ≡ true

@@ -45,13 +45,13 @@ module _ {W : Type 0} (keep : ℕ → Bool) where
   kept_at [] n tree e = cc
   kept_at (pair ∷ keys) n tree e = kept_cond (keep pair.0) pair (kept_pairs keys) n tree refl (kept_at keys n tree) e
 
-  tree_kept : (keys : KeyMap W) (work : W) (entries : List (Option ℕ)) → AllKept keep entries
-      → tree_from (kept_pairs keys) work entries ≡ tree_from keys work entries
-  tree_kept keys work [] kept = refl
-  tree_kept keys work (None ∷ entries) kept = ap Gap (tree_kept keys work entries kept)
-  tree_kept keys work (Some n ∷ entries) kept =
+  tree_kept : (keys : KeyMap W) (content : W) (entries : List (Option ℕ)) → AllKept keep entries
+      → tree_from (kept_pairs keys) content entries ≡ tree_from keys content entries
+  tree_kept keys content [] kept = refl
+  tree_kept keys content (None ∷ entries) kept = ap Gap (tree_kept keys content entries kept)
+  tree_kept keys content (Some n ∷ entries) kept =
       let a : tree_at (kept_pairs keys) n ≡ tree_at keys n = at_kept keys n kept.0 in
-      let b : tree_from (kept_pairs keys) work entries ≡ tree_from keys work entries = tree_kept keys work entries kept.1 in
+      let b : tree_from (kept_pairs keys) content entries ≡ tree_from keys content entries = tree_kept keys content entries kept.1 in
       cc
 
   live_kept : (keys : KeyMap W) (entries : List (Option ℕ)) → AllKept keep entries → AreLive keys entries → AreLive (kept_pairs keys) entries
@@ -65,13 +65,13 @@ module _ {W : Type 0} (keep : ℕ → Bool) where
     live = live_kept keys slot.1.entries kept next.live;
     unused = at_kept keys slot.0 is ∙ next.unused;
     fresh = λ n e. next.fresh n
-        (sym (at_kept keys n (kept_at keys n (tree_of (kept_pairs keys) slot.1) e)) ∙ e ∙ ap Some (tree_kept keys slot.1.work slot.1.entries kept));
+        (sym (at_kept keys n (kept_at keys n (tree_of (kept_pairs keys) slot.1) e)) ∙ e ∙ ap Some (tree_kept keys slot.1.content slot.1.entries kept));
   }
 
   grown_kept : (keys : KeyMap W) (slot : Slot W) → keep slot.0 ≡ true → AllKept keep slot.1.entries
       → grown (kept_pairs keys) slot ≡ kept_pairs (grown keys slot)
   grown_kept keys slot is kept =
-      ap (λ t. kept_pairs keys ++ (slot.0, t) ∷ []) (tree_kept keys slot.1.work slot.1.entries kept)
+      ap (λ t. kept_pairs keys ++ (slot.0, t) ∷ []) (tree_kept keys slot.1.content slot.1.entries kept)
       ∙ sym (ap (λ k. kept_pairs keys ++ cond k ((slot.0, tree_of keys slot.1) ∷ []) []) is)
       ∙ sym (filter-append (λ pair. keep pair.0) keys ((slot.0, tree_of keys slot.1) ∷ []))
 

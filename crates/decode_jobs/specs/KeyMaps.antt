@@ -29,14 +29,14 @@ module _ {W : Type 0} where
   entered None rest = Gap rest
   entered (Some first) rest = With first rest
 
-  -- the tree of this work with these entries
+  -- the tree of this content with these entries
   abbrev pub tree_from : KeyMap W → W → List (Option ℕ) → Tree W
-  tree_from keys work [] = Bare work
-  tree_from keys work (entry ∷ entries) = entered (named keys entry) (tree_from keys work entries)
+  tree_from keys content [] = Bare content
+  tree_from keys content (entry ∷ entries) = entered (named keys entry) (tree_from keys content entries)
 
   -- the tree of a node
   abbrev pub tree_of : KeyMap W → NodeOf W → Tree W
-  tree_of keys node = tree_from keys node.work node.entries
+  tree_of keys node = tree_from keys node.content node.entries
 
   -- the entry names a live key, or nothing
   abbrev pub IsLive : KeyMap W → Option ℕ → Type 0

@@ -2,10 +2,10 @@
 use Rattle.std.specs.Prelude.{◌≡◌, refl, ℕ, List, [], ◌∷◌, ◌++◌, map, Option, None, Some}
 use Rattle.std.proofs.Common.{◌∙◌, sym, ap, subst, append_assoc}
 use Rattle.std.proofs.lemmas.List.{append-nil}
-use Rattle.h264_controls.specs.declared.work.Work.{Work}
+use Rattle.h264_controls.specs.declared.request.RequestBody.{RequestBody}
 use Rattle.decode_jobs.specs.Trees.Tree.{Bare, Gap, With}
 use Rattle.decode_jobs.specs.Inputs.{InputValue, picture_of_frame}
-use Rattle.decode_jobs.specs.Keys.{Key, works_of, named_by_all, tree_with}
+use Rattle.decode_jobs.specs.Keys.{Key, bodies_of, named_by_all, tree_with}
 
 module _ {P : Type 0} where
   -- the pictures at the entries of an input's lists, slice by slice
@@ -32,14 +32,14 @@ abbrev pub IsClosed : {P : Type 0} → (InputValue P → P → Type 0) → (Key 
 IsClosed {P} IsDecoded IsOf =
     (keys : List (Option Key)) (input : InputValue P) (picture : P)
     → AreOfEntries IsOf (pictures_named input) keys → IsDecoded input picture
-    → IsOf (tree_with (works_of input.requests) keys) picture
+    → IsOf (tree_with (bodies_of input.requests) keys) picture
 
 module _ {P : Type 0} (IsDecoded : InputValue P → P → Type 0) where
   -- the input is made for a key, after the pictures at the entries in front of it: it asks for the
-  -- key's works, and at each entry stands a picture that the decoder made of an input that is made
+  -- key's bodies, and at each entry stands a picture that the decoder made of an input that is made
   -- for the entry's key
   abbrev pub IsMadeAfter : List (Option P) → Key → InputValue P → Type 0
-  IsMadeAfter pictures (Bare works) input = (works_of input.requests ≡ works) × (pictures_named input ≡ pictures)
+  IsMadeAfter pictures (Bare bodies) input = (bodies_of input.requests ≡ bodies) × (pictures_named input ≡ pictures)
   IsMadeAfter pictures (Gap rest) input = IsMadeAfter (pictures ++ None ∷ []) rest input
   IsMadeAfter pictures (With first rest) input =
       (picture : P) × (made : InputValue P) × IsMadeAfter [] first made × IsDecoded made picture
@@ -51,7 +51,7 @@ module _ {P : Type 0} (IsDecoded : InputValue P → P → Type 0) where
 
   module _ (input : InputValue P) where
     made_after : (keys : List (Option Key)) (front pictures : List (Option P)) → pictures_named input ≡ front ++ pictures
-        → AreOfEntries IsPictureOf pictures keys → IsMadeAfter front (tree_with (works_of input.requests) keys) input
+        → AreOfEntries IsPictureOf pictures keys → IsMadeAfter front (tree_with (bodies_of input.requests) keys) input
     made_after [] front [] shows are = (refl, shows ∙ append-nil front)
     made_after [] front (picture ∷ pictures) shows are = absurd are
     made_after (key ∷ keys) front [] shows are = absurd are
@@ -83,9 +83,9 @@ module _ {P : Type 0} {IsDecoded : InputValue P → P → Type 0} {IsOf : Key �
   -- an input that is made for a key has pictures of the keys at the key's entries
   of_entries : (front : List (Option P)) (keys : List (Option Key)) (key : Key) (input : InputValue P)
       → AreOfEntries IsOf front keys → IsMadeAfter IsDecoded front key input
-      → (rest : List (Option Key)) × (key ≡ tree_with (works_of input.requests) rest)
+      → (rest : List (Option Key)) × (key ≡ tree_with (bodies_of input.requests) rest)
       × AreOfEntries IsOf (pictures_named input) (keys ++ rest)
-  of_entries front keys (Bare works) input are made = (
+  of_entries front keys (Bare bodies) input are made = (
     [],
     ap Bare (sym made.0),
     subst (λ (ks : List (Option Key)). AreOfEntries IsOf (pictures_named input) ks) (sym (append-nil keys))

@@ -8,6 +8,6 @@ abbrev pub entry_bytes : Option ℕ → List ℕ
 entry_bytes None = 0 ∷ []
 entry_bytes (Some number) = 1 ∷ to_le_bytes w64 number
 
--- the entries, one after the other, and then the bytes of the work
+-- the entries, one after the other, and then the bytes of the content
 abbrev pub message : List (Option ℕ) → List ℕ → List ℕ
-message entries work = flat_map entry_bytes entries ++ work
+message entries content = flat_map entry_bytes entries ++ content

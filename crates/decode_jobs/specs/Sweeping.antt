@@ -8,7 +8,7 @@ use Rattle.decode_jobs.specs.KeyMaps.{KeyMap, tree_at}
 module _ {W : Type 0} where
   -- the tree is at an entry of another, or below one
   abbrev pub IsBelow : Tree W → Tree W → Type 0
-  IsBelow tree (Bare work) = ⊥
+  IsBelow tree (Bare content) = ⊥
   IsBelow tree (Gap rest) = IsBelow tree rest
   IsBelow tree (With first rest) = (tree ≡ first) ⊎ (IsBelow tree first ⊎ IsBelow tree rest)
 

@@ -14,10 +14,8 @@ mod marks;
 mod node;
 mod numbers;
 mod slots;
-mod work;
 
 pub use fingerprint::{Fingerprint, Sha256Fingerprint};
 pub use key_id::KeyId;
 pub use keys::Keys;
-pub use node::Node;
-pub use work::Work;
+pub use node::{Content, Node};

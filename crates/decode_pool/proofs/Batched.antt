@@ -7,16 +7,16 @@ use Rattle.decode_jobs.specs.Keys.{Key}
 use Rattle.decode_jobs.specs.declared.decoded.Decoded.{Ghosts}
 use Rattle.picture_store.specs.declared.answers.Landing.{Landing}
 use Rattle.picture_store.specs.declared.answers.Returning.{Returning}
-use Rattle.picture_store.specs.declared.refusals.TakeRefused.{TakeRefused}
-use Rattle.picture_store.specs.declared.refusals.TakeRefused.TheVariants as refusals
+use Rattle.picture_store.specs.declared.answers.TakeRefused.{TakeRefused}
+use Rattle.picture_store.specs.declared.answers.TakeRefused.TheVariants as refusals
 use Rattle.stream_session.specs.Jobs.{AnswersTake}
 use Rattle.stream_session.specs.Machines.{Machine}
-use Rattle.worker_jobs.specs.declared.tally.Counts.{Counts}
-use Rattle.worker_jobs.specs.declared.tally.Tally.{Tally}
+use Rattle.worker_jobs.specs.declared.worker_queue.JobCounts.{JobCounts}
+use Rattle.worker_jobs.specs.declared.worker_queue.WorkerQueue.{WorkerQueue}
 use Rattle.decode_pool.specs.declared.state.bringing.Next.{Next}
 use Rattle.decode_pool.specs.declared.state.bringing.Next.TheVariants as next
 use Rattle.decode_pool.specs.Batches.{GivesBackAll, LandsAll, TakesAll, TakesSome, TakesNone}
-use Rattle.worker_jobs.specs.Counts.{GivesBackIn, HasMore, LandsIn, TakesIn, with_landing}
+use Rattle.worker_jobs.specs.JobCounts.{GivesBackIn, HasMore, LandsIn, TakesIn, with_landing}
 
 -- a list with one element more in front is one longer
 pub longer : {X : Type 0} (xs ys : List X) (x : X) → xs ≡ x ∷ ys → length xs ≡ length ys + 1
@@ -24,8 +24,8 @@ longer {X} xs ys x is = let same : length xs ≡ length (x ∷ ys) = ap (λ (it 
 
 module _ {P : Type 0} {decoded : Ghosts P} where
   -- the results in hand land where the first does and then the others do
-  pub land_first : (from : Machine P) (old : Tally P decoded) (landing : Landing) (then : Machine P) (new : Tally P decoded)
-      → LandsIn from old landing then new → (to : Machine P) (final : Counts) (all : List P)
+  pub land_first : (from : Machine P) (old : WorkerQueue P decoded) (landing : Landing) (then : Machine P) (new : WorkerQueue P decoded)
+      → LandsIn from old landing then new → (to : Machine P) (final : JobCounts) (all : List P)
       → LandsAll decoded.IsDecoded then new.results.items new.counts new.late.items to final all
       → LandsAll decoded.IsDecoded from old.results.items old.counts old.late.items to final all
   land_first from old landing then new lands to final all others =
@@ -38,20 +38,20 @@ module _ {P : Type 0} {decoded : Ghosts P} where
         lands.made,
         subst (λ (late : List P). LandsAll decoded.IsDecoded then new.results.items (with_landing landing old.counts) late to final all)
             lands.late
-            (subst (λ (counts : Counts). LandsAll decoded.IsDecoded then new.results.items counts new.late.items to final all)
+            (subst (λ (counts : JobCounts). LandsAll decoded.IsDecoded then new.results.items counts new.late.items to final all)
             lands.counted others),
       )
 
   -- the jobs in hand are given back where the first is and then the others are
-  pub give_first : (from : Machine P) (old : Tally P decoded) (returning : Returning) (then : Machine P) (new : Tally P decoded)
-      → GivesBackIn from old returning then new → (to : Machine P) (final : Counts)
+  pub give_first : (from : Machine P) (old : WorkerQueue P decoded) (returning : Returning) (then : Machine P) (new : WorkerQueue P decoded)
+      → GivesBackIn from old returning then new → (to : Machine P) (final : JobCounts)
       → GivesBackAll then new.jobs.items new.counts to final → GivesBackAll from old.jobs.items old.counts to final
   give_first from old returning then new gives to final others =
       subst (λ (jobs : List (JobValue P)). GivesBackAll from jobs old.counts to final) (sym gives.first) (
         returning,
         then,
         gives.returns,
-        subst (λ (counts : Counts). GivesBackAll then new.jobs.items counts to final) gives.counted others,
+        subst (λ (counts : JobCounts). GivesBackAll then new.jobs.items counts to final) gives.counted others,
       )
 
 module _ {P : Type 0} (IsOf : Key → P → Type 0) where
@@ -81,13 +81,13 @@ module _ {P : Type 0} (IsOf : Key → P → Type 0) where
 
 module _ {P : Type 0} {decoded : Ghosts P} where
   -- a job that is taken
-  took : (from : Machine P) (old : Tally P decoded) (b : Bool) (to : Machine P) (new : Tally P decoded) → TakesIn from old (Ok b) to new
+  took : (from : Machine P) (old : WorkerQueue P decoded) (b : Bool) (to : Machine P) (new : WorkerQueue P decoded) → TakesIn from old (Ok b) to new
       → b ≡ true → (job : JobValue P) × AnswersTake decoded.IsOf from (Ok (Some job)) to × HasMore old job new
   took from old true to new takes is = takes
   took from old false to new takes is = absurd cc
 
   -- where one job more is taken, all were taken one after the other
-  pub take_more : (first from : Machine P) (old : Tally P decoded) (b : Bool) (to : Machine P) (new : Tally P decoded)
+  pub take_more : (first from : Machine P) (old : WorkerQueue P decoded) (b : Bool) (to : Machine P) (new : WorkerQueue P decoded)
       → TakesIn from old (Ok b) to new → b ≡ true → TakesAll decoded.IsOf first old.jobs.items from
       → TakesAll decoded.IsOf first new.jobs.items to × (length new.jobs.items ≡ length old.jobs.items + 1)
       × (new.results.items ≡ old.results.items) × (new.late.items ≡ old.late.items) × (new.counts ≡ old.counts)

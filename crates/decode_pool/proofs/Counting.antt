@@ -28,9 +28,9 @@ or_right false b unmet = unmet
 pub one_if : (b : Bool) → b ≡ false → weight b ≡ 0
 one_if b unmet = ap (λ (v : Bool). weight v) unmet
 
-pub tell : (b : Bool) → (b ≡ true) ⊎ (b ≡ false)
-tell true = inl refl
-tell false = inr refl
+pub wake : (b : Bool) → (b ≡ true) ⊎ (b ≡ false)
+wake true = inl refl
+wake false = inr refl
 
 fails : (b : Bool) → (b ≡ true → ⊥) → b ≡ false
 fails true unmet = absurd (unmet refl)
@@ -125,7 +125,7 @@ met_never m (suc n) high =
 pub met_once : (m n : ℕ) → 0 < m → m ≤ n → sum_to (λ k. weight (m == k)) n ≡ 1
 met_once m zero low within = absurd (omega arith)
 met_once m (suc n) low within =
-    elim (tell (m == (n + 1))) as (λ _. sum_to (λ k. weight (m == k)) (suc n) ≡ 1) [
+    elim (wake (m == (n + 1))) as (λ _. sum_to (λ k. weight (m == k)) (suc n) ≡ 1) [
       | inl met ↦
           (let one : weight (m == (n + 1)) ≡ 1 = ap (λ (b : Bool). weight b) met in
           let same : m ≡ n + 1 = eqb-true m (n + 1) met in

@@ -53,15 +53,15 @@ want_err {T} opened seats answer refusal is want =
     subst (λ (it : Result T Refusal). IfErr it (IsRefusal opened seats)) (sym is) (wanted opened seats refusal want)
 
 -- this cause, of the journal that was copied
-told : {V W : Type 0} (opened : ℕ) (seats : List Seat) (cause : FinishFault) (journal : List (List Edit))
+woken : {V W : Type 0} (opened : ℕ) (seats : List Seat) (cause : FinishFault) (journal : List (List Edit))
     (items : V → List (List Edit)) (copy : Result V W) (refusal : Refusal)
     → IfOk copy (λ it. items it ≡ journal) → Tells cause (copied items copy) refusal
     → IsFault opened seats cause (Some journal) → IsRefusal opened seats refusal
-told {V} {W} opened seats cause journal items (Ok copy) refusal same tells fault =
+woken {V} {W} opened seats cause journal items (Ok copy) refusal same tells fault =
     subst (λ (it : FinishFault). IsFault opened seats it (journal_in refusal)) (sym tells.0)
     (subst (λ (it : Option (List (List Edit))). IsFault opened seats cause it) (sym tells.1)
     (subst (λ (it : List (List Edit)). IsFault opened seats cause (Some it)) (sym same) fault))
-told {V} {W} opened seats cause journal items (Err wanted_it) refusal same tells fault =
+woken {V} {W} opened seats cause journal items (Err wanted_it) refusal same tells fault =
     wanted opened seats refusal tells
 
 -- the fault of the audit
@@ -70,7 +70,7 @@ pub audited : {V W : Type 0} (opened : ℕ) (seats : List Seat) (journal : List 
     → AreNumbered opened seats → AreBooksOf opened seats books → IfOk copy (λ it. items it ≡ journal)
     → TellsAudit fault (copied items copy) refusal → IsFaultOf journal books fault → IsRefusal opened seats refusal
 audited {V} {W} opened seats journal books (audits.SeatDisagrees seat number) items copy refusal numbered theirs same tells fault =
-    told opened seats (faults.SeatDisagrees seat number) journal items copy refusal same tells
+    woken opened seats (faults.SeatDisagrees seat number) journal items copy refusal same tells
     (record { numbered = numbered; books = books; theirs = theirs; disagrees = fault })
 audited {V} {W} opened seats journal books audits.Memory items copy refusal numbered theirs same tells fault =
     wanted opened seats refusal tells
@@ -85,7 +85,7 @@ pub missed : {V W : Type 0} (opened : ℕ) (seats : List Seat) (journal : List (
     → IfOk copy (λ it. items it ≡ journal) → Tells faults.SeatMissing (copied items copy) refusal
     → Lacks journal books → IsRefusal opened seats refusal
 missed {V} {W} opened seats journal books items copy refusal numbered theirs agree same tells lacks =
-    told opened seats faults.SeatMissing journal items copy refusal same tells
+    woken opened seats faults.SeatMissing journal items copy refusal same tells
     (record {
       numbered = numbered;
       books = books;

@@ -10,8 +10,8 @@ use Rattle.decode_jobs.specs.Keys.{Key}
 use Rattle.decode_jobs.specs.declared.decoded.Decoded.{Ghosts}
 use Rattle.stand_in_device.specs.declared.picture.Picture.{Picture}
 use Rattle.picture_keys.specs.Known.{key_of, known_after}
-use Rattle.picture_store.specs.declared.refusals.TakeRefused.{TakeRefused}
-use Rattle.picture_store.specs.declared.refusals.TakeRefused.TheVariants as take
+use Rattle.picture_store.specs.declared.answers.TakeRefused.{TakeRefused}
+use Rattle.picture_store.specs.declared.answers.TakeRefused.TheVariants as take
 use Rattle.picture_store.specs.declared.answers.Landing.{Landing}
 use Rattle.picture_store.specs.declared.answers.Landing.TheVariants as landings
 use Rattle.picture_store.specs.declared.answers.Returning.{Returning}
@@ -29,11 +29,11 @@ use Rattle.stream_session.specs.Grouping.{AnswersGroup}
 use Rattle.stream_session.specs.Machines.{Machine, AnswersEdit, empty, store_of, uncached}
 use Rattle.stream_session.specs.Jobs.{AnswersGiveBack, AnswersLand, AnswersTake}
 use Rattle.stream_session.specs.Needing.{AnswersDrop, AnswersReleased, AnswersTakeFor, AnswersUncache}
-use Rattle.stand_in_session.specs.declared.dropping.Dropping.{Dropping}
-use Rattle.stand_in_session.specs.declared.dropping.Dropping.TheVariants as dropping
+use Rattle.stand_in_session.specs.declared.jobs.Dropping.{Dropping}
+use Rattle.stand_in_session.specs.declared.jobs.Dropping.TheVariants as dropping
 use Rattle.worker_jobs.specs.Taking.{AnswersTakeFirst}
-use Rattle.worker_jobs.specs.Counts.{TakesFirstIn, TakesIn}
-use Rattle.worker_jobs.specs.declared.tally.Tally.{Tally}
+use Rattle.worker_jobs.specs.JobCounts.{TakesFirstIn, TakesIn}
+use Rattle.worker_jobs.specs.declared.worker_queue.WorkerQueue.{WorkerQueue}
 use Rattle.decode_pool.specs.Jobs.{JobsDiffer}
 use Rattle.decode_pool.specs.Seats.{AnswersDropIn, AnswersEditIn}
 use Rattle.decode_pool.proofs.Lists.{StoodAt, among, get_push, get_remove_above, get_remove_below}
@@ -43,8 +43,8 @@ side at gone = cases_lt at gone
 
 module _ {P : Type 0} where
   -- before the first edit none is out
-  pub none_differ : (room : ℕ) → JobsDiffer (empty {P = P} room)
-  none_differ room = record {
+  pub none_differ : (cache : ℕ) → JobsDiffer (empty {P = P} cache)
+  none_differ cache = record {
     given = λ at job is. absurd (cc);
     differ = λ at later job other low is so. absurd (cc);
   }
@@ -270,7 +270,7 @@ module _ {P : Type 0} (IsOf : Key → P → Type 0) where
 
 module _ {P : Type 0} {decoded : Ghosts P} where
   -- after a worker asks for one more in hand for the first of several ids
-  pub took_first_differ : (old new : Machine P) (ids : List ℕ) (before : Tally P decoded) (answer : Result Bool TakeRefused) (after : Tally P decoded)
+  pub took_first_differ : (old new : Machine P) (ids : List ℕ) (before : WorkerQueue P decoded) (answer : Result Bool TakeRefused) (after : WorkerQueue P decoded)
       → TakesFirstIn old ids before answer new after → JobsDiffer old → JobsDiffer new
   took_first_differ old new ids before (Ok true) after takes apart =
       first_differ decoded.IsOf old new ids (Ok (Some takes.0)) takes.1 apart
@@ -283,7 +283,7 @@ module _ {P : Type 0} {decoded : Ghosts P} where
       ]
 
   -- after a worker asks for one more in hand
-  pub took_differ : (old new : Machine P) (before : Tally P decoded) (answer : Result Bool TakeRefused) (after : Tally P decoded)
+  pub took_differ : (old new : Machine P) (before : WorkerQueue P decoded) (answer : Result Bool TakeRefused) (after : WorkerQueue P decoded)
       → TakesIn old before answer new after → JobsDiffer old → JobsDiffer new
   took_differ old new before (Ok true) after takes apart = taken_differ decoded.IsOf old new (Ok (Some takes.0)) takes.1 apart
   took_differ old new before (Ok false) after takes apart = taken_differ decoded.IsOf old new (Ok None) takes.0 apart

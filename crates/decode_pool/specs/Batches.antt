@@ -5,20 +5,20 @@ use Rattle.decode_jobs.specs.Jobs.{JobValue}
 use Rattle.decode_jobs.specs.Keys.{Key}
 use Rattle.picture_store.specs.declared.answers.Landing.{Landing}
 use Rattle.picture_store.specs.declared.answers.Returning.{Returning}
-use Rattle.picture_store.specs.declared.refusals.TakeRefused.{TakeRefused}
+use Rattle.picture_store.specs.declared.answers.TakeRefused.{TakeRefused}
 use Rattle.stream_session.specs.Machines.{Machine}
 use Rattle.stream_session.specs.Jobs.{AnswersGiveBack, AnswersLand, AnswersTake}
 use Rattle.worker_jobs.specs.Taking.{AnswersTakeFirst, NoneDue}
 use Rattle.worker_jobs.specs.Wanted.{Wants, urgent}
-use Rattle.worker_jobs.specs.declared.tally.Counts.{Counts}
+use Rattle.worker_jobs.specs.declared.worker_queue.JobCounts.{JobCounts}
 use Rattle.decode_pool.specs.declared.state.bringing.Next.{Next}
 use Rattle.decode_pool.specs.declared.state.bringing.Next.TheVariants as next
-use Rattle.worker_jobs.specs.Counts.{with_landing, with_late, with_returning}
+use Rattle.worker_jobs.specs.JobCounts.{with_landing, with_late, with_returning}
 
 module _ {P : Type 0} (IsDecoded : InputValue P → P → Type 0) where
   -- the results of the jobs land one after the other, and are counted; a picture of each that isn't
   -- taken is kept, behind those that came too late before
-  abbrev pub LandsAll : Machine P → List (JobValue P) → Counts → List P → Machine P → Counts → List P → Type 0
+  abbrev pub LandsAll : Machine P → List (JobValue P) → JobCounts → List P → Machine P → JobCounts → List P → Type 0
   LandsAll from [] counts late to final all = (to ≡ from) × (final ≡ counts) × (all ≡ late)
   LandsAll from (job ∷ jobs) counts late to final all =
       (landing : Landing) × (picture : P) × (then : Machine P) × AnswersLand IsDecoded from job landing then
@@ -27,7 +27,7 @@ module _ {P : Type 0} (IsDecoded : InputValue P → P → Type 0) where
 
 module _ {P : Type 0} where
   -- the jobs are given back one after the other, and are counted
-  abbrev pub GivesBackAll : Machine P → List (JobValue P) → Counts → Machine P → Counts → Type 0
+  abbrev pub GivesBackAll : Machine P → List (JobValue P) → JobCounts → Machine P → JobCounts → Type 0
   GivesBackAll from [] counts to final = (to ≡ from) × (final ≡ counts)
   GivesBackAll from (job ∷ jobs) counts to final =
       (returning : Returning) × (then : Machine P) × AnswersGiveBack from job returning then

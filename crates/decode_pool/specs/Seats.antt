@@ -10,7 +10,7 @@ use Rattle.stream_edits.specs.declared.refusals.EditRefused.{EditRefused}
 use Rattle.stream_edits.specs.declared.refusals.EditRefused.TheVariants as refusals
 use Rattle.stand_in_device.specs.KeyPictures.{IsPicture}
 use Rattle.stand_in_device.specs.declared.picture.Picture.{Picture}
-use Rattle.stand_in_session.specs.declared.dropping.Dropping.{Dropping}
+use Rattle.stand_in_session.specs.declared.jobs.Dropping.{Dropping}
 use Rattle.stand_in_session.specs.Showing.{Shown, Shows}
 use Rattle.stream_session.specs.Grouping.{AnswersGroup}
 use Rattle.stand_in_session.specs.Machines.{Machine}

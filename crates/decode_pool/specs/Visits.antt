@@ -12,7 +12,7 @@ use Rattle.stream_session.specs.Grouping.{AnswersGroup}
 use Rattle.stream_session.specs.Machines as sessions
 use Rattle.stream_session.specs.Needing as needing
 use Rattle.stream_session.specs.Showing.{Shows}
-use Rattle.stand_in_session.specs.declared.dropping.Dropping.{Dropping}
+use Rattle.stand_in_session.specs.declared.jobs.Dropping.{Dropping}
 use Rattle.stand_in_session.specs.Machines.{Machine}
 use Rattle.stand_in_session.specs.Needing.{AnswersDrop}
 use Rattle.decode_pool.specs.Waits.{IsReached}

@@ -10,7 +10,7 @@ use Rattle.stream_session.specs.Machines.{Machine}
 use Rattle.stream_session.specs.Showing.{Shows}
 use Rattle.worker_jobs.specs.Rests.{IsAtRest, IsSettled, MayNotRest}
 use Rattle.worker_jobs.specs.Wanted.{Wants}
-use Rattle.decode_pool.specs.declared.status.Status.{Status}
+use Rattle.decode_pool.specs.declared.status.DeskStatus.{DeskStatus}
 use Rattle.decode_pool.specs.declared.state.settling.Settled.{Settled}
 use Rattle.decode_pool.specs.declared.state.settling.Settled.TheVariants as settled
 
@@ -50,7 +50,7 @@ module _ {P : Type 0} (IsOf : Key → P → Type 0) where
   -- so many have ended: no unit is pending; or one is, but all that is wanted is done; or that isn't
   -- so and no worker is left. It goes on while a unit is pending, something that is wanted may not be
   -- done, and a worker is left
-  abbrev pub IsSettledBy : Machine P → Status → ℕ → Result Settled ℕ → Type 0
+  abbrev pub IsSettledBy : Machine P → DeskStatus → ℕ → Result Settled ℕ → Type 0
   IsSettledBy machine status workers (Ok settled.Done) = AreSettledFrom machine 0
   IsSettledBy machine status workers (Ok settled.Rested) = IsSomePending machine × IsAtRest IsOf machine status.wanted
   IsSettledBy machine status workers (Ok settled.Idle) =

@@ -27,7 +27,7 @@ impl Seat {
     {
         let mut state = desk.state.lock(rt);
         let appended = state.append_read(self, units);
-        desk.tell(state);
+        desk.wake(state);
         appended
     }
 }

@@ -11,7 +11,7 @@ use h264_types::pictures::AuId;
 use std::alloc::{AllocError, Global};
 use std::sync::{Condvar, Mutex, MutexGuard, Wait};
 use stream_session::{Config, Session};
-use worker_jobs::{Tally, TooManyWanted};
+use worker_jobs::{TooManyWanted, WorkerQueue};
 
 /// A session that threads share, over the pictures of any decoder: some edit it and ask, workers
 /// decode. One lock is round all of it, which is held for a call of the session and no longer. At
@@ -27,7 +27,7 @@ pub struct DeskOf<P: Decoded> {
     pub(crate) settled: Condvar,
     /// Told where the session may have another picture to show.
     pub(crate) changed: Condvar,
-    pub(crate) room: u16,
+    pub(crate) cache: u16,
     pub(crate) workers: usize,
     pub(crate) seats: usize,
 }
@@ -37,7 +37,7 @@ impl<P: Decoded> DeskOf<P> {
     pub fn new(alloc: Global, config: Config, workers: usize) -> Result<DeskOf<P>, AllocError>
         requires cache { (1 ≤ config.cache) × (config.cache ≤ 4096) }
         requires workers { (1 ≤ workers) × (workers ≤ 64) }
-        ensures room { IfOk result (λ desk. desk.room ≡ config.cache) }
+        ensures capacity { IfOk result (λ desk. desk.cache ≡ config.cache) }
         ensures workers { IfOk result (λ desk. desk.workers ≡ workers) }
         ensures seats { IfOk result (λ desk. desk.seats ≡ 0) }
     {
@@ -46,7 +46,7 @@ impl<P: Decoded> DeskOf<P> {
             job_due: Condvar::new(),
             settled: Condvar::new(),
             changed: Condvar::new(),
-            room: config.cache,
+            cache: config.cache,
             workers,
             seats: 0,
         })
@@ -110,7 +110,7 @@ impl<P: Decoded> DeskOf<P> {
             }
             if !is_wanted {
                 is_wanted = state.status.wanted.wait_for(id);
-                if state.status.workers.tell_one() {
+                if state.status.workers.wake_one() {
                     self.job_due.notify_one();
                 }
             }
@@ -138,7 +138,7 @@ impl<P: Decoded> DeskOf<P> {
     {
         let mut state = self.state.lock(rt);
         state.want(ids)?;
-        self.tell(state);
+        self.wake(state);
         Ok(())
     }
 
@@ -146,15 +146,15 @@ impl<P: Decoded> DeskOf<P> {
     pub fn rest<R: Wait>(&self, rt: &R, rest: bool) {
         let mut state = self.state.lock(rt);
         state.set_rest(rest);
-        self.tell(state);
+        self.wake(state);
     }
 
     /// Wakes whom a change of the stream or of what is wanted, or the end of a worker may concern:
     /// a worker that sleeps, as a job may be due; each seat that waits, as what it waits for may be
     /// there; and who waits for news. It lets the lock go first.
-    pub(crate) fn tell(&self, state: MutexGuard<'_, DeskState<P>>) {
+    pub(crate) fn wake(&self, state: MutexGuard<'_, DeskState<P>>) {
         let mut state = state;
-        let wakes = state.status.tell();
+        let wakes = state.status.wake();
         drop(state);
         if wakes.workers {
             self.job_due.notify_one();
@@ -169,31 +169,31 @@ impl<P: Decoded> DeskOf<P> {
 
     /// A worker comes back, and brings all results that it has in hand. It wakes the seats that
     /// wait for single units, of which one may be there, and who waits for news.
-    pub(crate) fn come_back(&self, state: &mut DeskState<P>, tally: &mut Tally<P>)
-        ensures landed { LandsAll P.IsDecoded state.old.session tally.old.results.items
-            tally.old.counts tally.old.late.items state.new.session tally.new.counts
-            tally.new.late.items }
-        ensures results { tally.new.results.items ≡ [] }
-        ensures jobs { tally.new.jobs.items ≡ tally.old.jobs.items }
+    pub(crate) fn come_back(&self, state: &mut DeskState<P>, queue: &mut WorkerQueue<P>)
+        ensures landed { LandsAll P.IsDecoded state.old.session queue.old.results.items
+            queue.old.counts queue.old.late.items state.new.session queue.new.counts
+            queue.new.late.items }
+        ensures results { queue.new.results.items ≡ [] }
+        ensures jobs { queue.new.jobs.items ≡ queue.old.jobs.items }
     {
-        let brings = tally.results() > 0;
-        state.come_back(tally);
-        if brings && state.status.wanted.is_any_waited_for() && state.status.seats.tell_all() {
+        let brings = queue.results() > 0;
+        state.come_back(queue);
+        if brings && state.status.wanted.is_any_waited_for() && state.status.seats.wake_all() {
             self.settled.notify_all();
         }
-        if brings && state.status.tell_news() {
+        if brings && state.status.wake_for_news() {
             self.changed.notify_all();
         }
     }
 
     /// A worker ends: it brings the results that it has in hand, gives back the jobs, and is
     /// counted.
-    pub(crate) fn end_worker<R: Wait>(&self, rt: &R, tally: &mut Tally<P>)
-        ensures jobs { tally.new.jobs.items ≡ [] }
-        ensures results { tally.new.results.items ≡ [] }
+    pub(crate) fn end_worker<R: Wait>(&self, rt: &R, queue: &mut WorkerQueue<P>)
+        ensures jobs { queue.new.jobs.items ≡ [] }
+        ensures results { queue.new.results.items ≡ [] }
     {
         let mut state = self.state.lock(rt);
-        state.end_worker(tally);
-        self.tell(state);
+        state.end_worker(queue);
+        self.wake(state);
     }
 }

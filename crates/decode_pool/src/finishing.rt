@@ -44,14 +44,14 @@ pub fn finish(alloc: Global, desk: Desk, seats: Vec<Seat>) -> Result<Session, Un
         (option_map (λ copy. copy.items) unfinished.journal)) }
     ensures seats { IfErr result (λ unfinished. unfinished.seats ≡ seats) }
     ensures desk { IfErr result (λ unfinished. (unfinished.desk.seats ≡ desk.seats)
-        × (unfinished.desk.workers ≡ desk.workers) × (unfinished.desk.room ≡ desk.room)) }
+        × (unfinished.desk.workers ≡ desk.workers) × (unfinished.desk.cache ≡ desk.cache)) }
 {
     let DeskOf {
         state,
         job_due,
         settled,
         changed,
-        room,
+        cache,
         workers,
         seats: opened,
     } = desk;
@@ -64,7 +64,7 @@ pub fn finish(alloc: Global, desk: Desk, seats: Vec<Seat>) -> Result<Session, Un
                 job_due,
                 settled,
                 changed,
-                room,
+                cache,
                 workers,
                 seats: opened,
             },

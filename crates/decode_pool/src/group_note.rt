@@ -14,7 +14,7 @@ pub(crate) struct GroupNote {
     pub(crate) edits: Vec<Edit>,
     ids: Vec<AuId>,
     ghost none: { ids.items ≡ [] },
-    ghost room: { length edits.items ≤ vec_capacity ids },
+    ghost fits: { length edits.items ≤ vec_capacity ids },
 }
 
 impl GroupNote {
@@ -34,10 +34,10 @@ impl GroupNote {
     {
         let GroupNote {
             edits,
-            ids: mut room,
+            ids: mut spare,
         } = self;
-        match room.extend_from_slice(ids) {
-            Ok(()) => NotedGroup::new(edits, room),
+        match spare.extend_from_slice(ids) {
+            Ok(()) => NotedGroup::new(edits, spare),
             Err(AllocError) => unreachable!(),
         }
     }

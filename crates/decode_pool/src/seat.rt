@@ -184,7 +184,7 @@ impl Seat {
     {
         let mut state = desk.state.lock(rt);
         let answer = state.edit_read(self, read);
-        desk.tell(state);
+        desk.wake(state);
         answer
     }
 
@@ -217,7 +217,7 @@ impl Seat {
         let note = GroupNote::of(self.alloc, group.edits())?;
         let mut state = desk.state.lock(rt);
         let answer = state.edit_group(self, group, note);
-        desk.tell(state);
+        desk.wake(state);
         answer
     }
 
@@ -240,7 +240,7 @@ impl Seat {
     {
         let mut state = desk.state.lock(rt);
         let answer = state.drop_picture(self, id);
-        desk.tell(state);
+        desk.wake(state);
         answer
     }
 

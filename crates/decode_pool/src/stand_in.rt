@@ -29,7 +29,7 @@ impl DeskOf<Picture> {
         requires cache { (1 ≤ config.cache) × (config.cache ≤ 4096) }
         requires workers { (1 ≤ workers) × (workers ≤ 64) }
         requires seats { (1 ≤ seats) × (seats ≤ 64) }
-        ensures room { IfOk result (λ opened. opened.0.room ≡ config.cache) }
+        ensures capacity { IfOk result (λ opened. opened.0.cache ≡ config.cache) }
         ensures workers { IfOk result (λ opened. opened.0.workers ≡ workers) }
         ensures seats { IfOk result (λ opened. opened.0.seats ≡ seats) }
         ensures books { IfOk result (λ opened. AreNew seats opened.1.items) }

@@ -8,7 +8,7 @@ ghost use Rattle.stream_session.specs.Needing.{AnswersReleased, AnswersUncache};
 ghost use Rattle.decode_pool.specs.Jobs.{JobsDiffer};
 ghost use Rattle.decode_pool.specs.Threads.{Closes};
 ghost use Rattle.worker_jobs.specs.Wanted.{urgent};
-ghost use Rattle.worker_jobs.specs.Counts.{GivesBackIn, LandsIn, TakesFirstIn, TakesIn};
+ghost use Rattle.worker_jobs.specs.JobCounts.{GivesBackIn, LandsIn, TakesFirstIn, TakesIn};
 ghost use Rattle.decode_pool.specs.Waits.{IsReached};
 
 mod bringing;
@@ -16,7 +16,7 @@ mod seating;
 mod settling;
 mod visiting;
 
-use crate::status::{Status, Wakes};
+use crate::status::{DeskStatus, Wakes};
 pub(crate) use bringing::Next;
 use decode_jobs::Decoded;
 use h264_types::pictures::AuId;
@@ -25,7 +25,7 @@ pub use settling::Settled;
 use std::alloc::{AllocError, Global};
 use stream_edits::Last;
 use stream_session::{Config, Session};
-use worker_jobs::{Tally, TooManyWanted};
+use worker_jobs::{TooManyWanted, WorkerQueue};
 
 /// What lies under the lock of a desk: the session, and what its threads do. Jobs that
 /// are out have different numbers and keys. The session is this module's alone: what a thread does
@@ -33,7 +33,7 @@ use worker_jobs::{Tally, TooManyWanted};
 #[derive(Debug, Drop)]
 pub(crate) struct DeskState<P: Decoded> {
     session: Session<P>,
-    pub(crate) status: Status,
+    pub(crate) status: DeskStatus,
     ghost jobs: { JobsDiffer session },
 }
 
@@ -49,7 +49,7 @@ impl<P: Decoded> DeskState<P> {
         match Session::new(alloc, config) {
             Ok(session) => Ok(DeskState {
                 session,
-                status: Status::new(),
+                status: DeskStatus::new(),
             }),
             Err(_) => Err(AllocError),
         }
@@ -160,42 +160,42 @@ impl<P: Decoded> DeskState<P> {
     }
 
     /// A worker takes a job, if one is due: whether it has one more in hand.
-    pub(crate) fn take(&mut self, tally: &mut Tally<P>) -> Result<bool, TakeRefused>
-        requires { tally.old.count < 2 ^ 63 }
-        ensures session { TakesIn self.old.session tally.old result self.new.session tally.new }
+    pub(crate) fn take(&mut self, queue: &mut WorkerQueue<P>) -> Result<bool, TakeRefused>
+        requires { queue.old.count < 2 ^ 63 }
+        ensures session { TakesIn self.old.session queue.old result self.new.session queue.new }
         ensures status { self.new.status ≡ self.old.status }
     {
-        tally.take_in(&mut self.session)
+        queue.take_in(&mut self.session)
     }
 
     /// A worker takes a job for the first wanted id for which a needed unit is due, if there is
     /// one: whether it has one more in hand.
-    pub(crate) fn take_first(&mut self, tally: &mut Tally<P>) -> Result<bool, TakeRefused>
-        requires { tally.old.count < 2 ^ 63 }
+    pub(crate) fn take_first(&mut self, queue: &mut WorkerQueue<P>) -> Result<bool, TakeRefused>
+        requires { queue.old.count < 2 ^ 63 }
         ensures session { TakesFirstIn self.old.session (urgent self.old.status.wanted)
-            tally.old result self.new.session tally.new }
+            queue.old result self.new.session queue.new }
         ensures status { self.new.status ≡ self.old.status }
     {
-        tally.take_first_in(&self.status.wanted, &mut self.session)
+        queue.take_first_in(&self.status.wanted, &mut self.session)
     }
 
     /// A worker brings the first result that it has in hand.
-    pub(crate) fn land(&mut self, tally: &mut Tally<P>) -> Landing
-        requires { tally.old.results.items ≢ [] }
-        ensures session { LandsIn self.old.session tally.old result self.new.session tally.new }
-        ensures count { tally.new.count ≡ tally.old.count }
+    pub(crate) fn land(&mut self, queue: &mut WorkerQueue<P>) -> Landing
+        requires { queue.old.results.items ≢ [] }
+        ensures session { LandsIn self.old.session queue.old result self.new.session queue.new }
+        ensures count { queue.new.count ≡ queue.old.count }
         ensures status { self.new.status ≡ self.old.status }
     {
-        tally.land_in(&mut self.session)
+        queue.land_in(&mut self.session)
     }
 
     /// A worker gives the first job back that it has in hand.
-    pub(crate) fn give_back(&mut self, tally: &mut Tally<P>) -> Returning
-        requires { tally.old.jobs.items ≢ [] }
-        ensures session { GivesBackIn self.old.session tally.old result self.new.session tally.new }
-        ensures count { tally.new.count ≡ tally.old.count }
+    pub(crate) fn give_back(&mut self, queue: &mut WorkerQueue<P>) -> Returning
+        requires { queue.old.jobs.items ≢ [] }
+        ensures session { GivesBackIn self.old.session queue.old result self.new.session queue.new }
+        ensures count { queue.new.count ≡ queue.old.count }
         ensures status { self.new.status ≡ self.old.status }
     {
-        tally.give_back_in(&mut self.session)
+        queue.give_back_in(&mut self.session)
     }
 }

@@ -12,26 +12,29 @@ use worker_jobs::Wanted;
 #[derive(Clone, Copy, Debug, Drop)]
 pub(crate) struct Sleepers {
     asleep: usize,
-    told: usize,
-    ghost told_ones: { told ≤ asleep },
+    woken: usize,
+    ghost woken_ones: { woken ≤ asleep },
 }
 
 impl Sleepers {
-    ghost use Rattle.decode_pool.specs.Threads.{TellsAll, TellsOne};
+    ghost use Rattle.decode_pool.specs.Threads.{WakesAll, WakesOne};
 
     /// None sleeps.
     pub(crate) fn none() -> Sleepers
         ensures asleep { result.asleep ≡ 0 }
-        ensures told { result.told ≡ 0 }
+        ensures woken { result.woken ≡ 0 }
     {
-        Sleepers { asleep: 0, told: 0 }
+        Sleepers {
+            asleep: 0,
+            woken: 0,
+        }
     }
 
     /// One falls asleep.
     pub(crate) fn fall_asleep(&mut self)
         ensures asleep { self.old.asleep < 18446744073709551615
             → self.new.asleep ≡ self.old.asleep + 1 }
-        ensures told { self.new.told ≡ self.old.told }
+        ensures woken { self.new.woken ≡ self.old.woken }
     {
         self.asleep = self.asleep.saturating_add(1);
     }
@@ -39,30 +42,30 @@ impl Sleepers {
     /// One is awake.
     pub(crate) fn awake(&mut self)
         ensures asleep { 0 < self.old.asleep → self.new.asleep + 1 ≡ self.old.asleep }
-        ensures told { 0 < self.old.told → self.new.told + 1 ≡ self.old.told }
-        ensures none { self.old.told ≡ 0 → self.new.told ≡ 0 }
+        ensures woken { 0 < self.old.woken → self.new.woken + 1 ≡ self.old.woken }
+        ensures none { self.old.woken ≡ 0 → self.new.woken ≡ 0 }
     {
         self.asleep = self.asleep.saturating_sub(1);
-        self.told = self.told.saturating_sub(1);
+        self.woken = self.woken.saturating_sub(1);
     }
 
     /// Whether one sleeps whom nobody told to wake up. It counts as told then.
-    pub(crate) fn tell_one(&mut self) -> bool
-        ensures { TellsOne self.old result self.new }
+    pub(crate) fn wake_one(&mut self) -> bool
+        ensures { WakesOne self.old result self.new }
     {
-        let sleeps = self.told < self.asleep;
+        let sleeps = self.woken < self.asleep;
         if sleeps {
-            self.told += 1;
+            self.woken += 1;
         }
         sleeps
     }
 
     /// Whether some sleep whom nobody told to wake up. All count as told then.
-    pub(crate) fn tell_all(&mut self) -> bool
-        ensures { TellsAll self.old result self.new }
+    pub(crate) fn wake_all(&mut self) -> bool
+        ensures { WakesAll self.old result self.new }
     {
-        let sleep = self.told < self.asleep;
-        self.told = self.asleep;
+        let sleep = self.woken < self.asleep;
+        self.woken = self.asleep;
         sleep
     }
 }
@@ -81,7 +84,7 @@ pub(crate) struct Wakes {
 /// What the threads of a desk do: whether the desk is closed, how many workers have ended, how many
 /// have jobs or results in hand, who sleeps, and what seats want first.
 #[derive(Debug, Drop)]
-pub(crate) struct Status {
+pub(crate) struct DeskStatus {
     pub(crate) closed: bool,
     pub(crate) ended: usize,
     pub(crate) at_work: usize,
@@ -96,18 +99,18 @@ pub(crate) struct Status {
     pub(crate) watchers: Sleepers,
 }
 
-impl Status {
+impl DeskStatus {
     ghost use Rattle.worker_jobs.specs.Wanted.{IsOneLess};
-    ghost use Rattle.decode_pool.specs.Threads.{Closes, Tells, TellsAll, TellsNews};
+    ghost use Rattle.decode_pool.specs.Threads.{Closes, Tells, WakesAll, WakesForNews};
 
     /// The desk is open, no worker has come yet, and the whole stream is wanted.
-    pub(crate) fn new() -> Status
+    pub(crate) fn new() -> DeskStatus
         ensures open { result.closed ≡ false }
         ensures ended { result.ended ≡ 0 }
         ensures at_work { result.at_work ≡ 0 }
         ensures wanted { result.wanted ≡ all_units }
     {
-        Status {
+        DeskStatus {
             closed: false,
             ended: 0,
             at_work: 0,
@@ -120,22 +123,22 @@ impl Status {
     }
 
     /// The session may have another picture to show. Whether some sleep whom that is to wake.
-    pub(crate) fn tell_news(&mut self) -> bool
-        ensures { TellsNews self.old result self.new }
+    pub(crate) fn wake_for_news(&mut self) -> bool
+        ensures { WakesForNews self.old result self.new }
     {
         self.news = self.news.wrapping_add(1);
-        self.watchers.tell_all()
+        self.watchers.wake_all()
     }
 
     /// The stream, what is wanted or the number of the workers that have ended may have changed:
     /// whom that is to wake.
-    pub(crate) fn tell(&mut self) -> Wakes
+    pub(crate) fn wake(&mut self) -> Wakes
         ensures { Tells self.old result self.new }
     {
         Wakes {
-            workers: self.workers.tell_one(),
-            seats: self.seats.tell_all(),
-            watchers: self.tell_news(),
+            workers: self.workers.wake_one(),
+            seats: self.seats.wake_all(),
+            watchers: self.wake_for_news(),
         }
     }
 
@@ -145,9 +148,9 @@ impl Status {
     {
         self.closed = true;
         Wakes {
-            workers: self.workers.tell_all(),
+            workers: self.workers.wake_all(),
             seats: false,
-            watchers: self.watchers.tell_all(),
+            watchers: self.watchers.wake_all(),
         }
     }
 
@@ -156,15 +159,15 @@ impl Status {
     pub(crate) fn wait_no_more(&mut self, id: AuId) -> bool
         ensures wanted { IsOneLess self.old.wanted id self.new.wanted }
         ensures full { length self.old.wanted.waited ≡ 64
-            → TellsAll self.old.seats result self.new.seats }
-        ensures room { (length self.old.wanted.waited ≡ 64 → ⊥)
+            → WakesAll self.old.seats result self.new.seats }
+        ensures space { (length self.old.wanted.waited ≡ 64 → ⊥)
             → (result ≡ false) × (self.new.seats ≡ self.old.seats) }
         ensures rest { self.new ≡ record self.old {
           seats = self.new.seats;
           wanted = self.new.wanted;
         } }
     {
-        let wakes = self.wanted.is_full() && self.seats.tell_all();
+        let wakes = self.wanted.is_full() && self.seats.wake_all();
         self.wanted.wait_no_more(id);
         wakes
     }

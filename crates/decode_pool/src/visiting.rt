@@ -20,7 +20,7 @@ impl<P: Decoded> DeskOf<P> {
     {
         let mut state = self.state.lock(rt);
         let answer = state.visit_edit(read);
-        self.tell(state);
+        self.wake(state);
         answer
     }
 
@@ -35,7 +35,7 @@ impl<P: Decoded> DeskOf<P> {
     {
         let mut state = self.state.lock(rt);
         let answer = state.visit_group(group);
-        self.tell(state);
+        self.wake(state);
         answer
     }
 
@@ -53,7 +53,7 @@ impl<P: Decoded> DeskOf<P> {
     {
         let mut state = self.state.lock(rt);
         let answer = state.visit_drop(id);
-        self.tell(state);
+        self.wake(state);
         answer
     }
 
@@ -86,9 +86,9 @@ impl<P: Decoded> DeskOf<P> {
     /// A session to begin anew with: of an empty stream, and with the desk's room for pictures that
     /// no unit has.
     pub fn fresh(&self, alloc: Global) -> Result<Session<P>, AllocError>
-        ensures { IfOk result (λ session. session ≡ empty self.now.room) }
+        ensures { IfOk result (λ session. session ≡ empty self.now.cache) }
     {
-        match Session::new(alloc, Config { cache: self.room }) {
+        match Session::new(alloc, Config { cache: self.cache }) {
             Ok(session) => Ok(session),
             Err(_) => Err(AllocError),
         }
@@ -97,9 +97,9 @@ impl<P: Decoded> DeskOf<P> {
     /// A session to begin anew with, from a snapshot, with the desk's room for pictures that no unit
     /// has.
     pub fn begun(&self, alloc: Global, snapshot: ReadSnapshot) -> Result<Session<P>, AllocError>
-        ensures { IfOk result (IsBegun self.now.room snapshot) }
+        ensures { IfOk result (IsBegun self.now.cache snapshot) }
     {
-        match Session::begun(alloc, Config { cache: self.room }, snapshot) {
+        match Session::begun(alloc, Config { cache: self.cache }, snapshot) {
             Ok(session) => Ok(session),
             Err(_) => Err(AllocError),
         }
@@ -113,7 +113,7 @@ impl<P: Decoded> DeskOf<P> {
     {
         let mut state = self.state.lock(rt);
         state.begin_anew(session);
-        self.tell(state);
+        self.wake(state);
     }
 
     /// Waits until the session may show another picture of some unit than it did when `seen` was

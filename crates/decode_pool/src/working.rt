@@ -1,14 +1,14 @@
 //! Workers.
 
 ghost use Rattle.std.specs.Prelude.{◌≡◌, ◌≢◌, ◌<◌, ◌≤◌, MatchBool, []};
-ghost use Rattle.worker_jobs.specs.Counts.{IsFaithful};
+ghost use Rattle.worker_jobs.specs.JobCounts.{IsFaithful};
 
 use crate::desk::DeskOf;
 use crate::state::{DeskState, Next};
 use decode_jobs::Decoded;
 use std::alloc::Global;
 use std::sync::{MutexGuard, Wait};
-use worker_jobs::{Decoder, Tally, Worked};
+use worker_jobs::{Decoder, Worked, WorkerQueue};
 
 /// How often a worker goes to the session at most: each time it takes a job or more, and never more
 /// than 2^63 in all.
@@ -35,19 +35,19 @@ pub fn work_with<P: Decoded, D: Decoder<P> + Drop, R: Wait>(
     requires { IsFaithful P.IsDecoded D.Makes }
 {
     let mut decoder = decoder;
-    let mut tally = Tally::new(alloc);
+    let mut queue = WorkerQueue::new(alloc);
     let mut most = 1;
     for _round in 0..MOST_ROUNDS {
-        let has_jobs = exchange(rt, desk, &mut tally, &mut decoder, most);
-        tally.give_back_late(&mut decoder);
-        if !has_jobs || !tally.decode(alloc, &mut decoder) {
+        let has_jobs = exchange(rt, desk, &mut queue, &mut decoder, most);
+        queue.give_back_late(&mut decoder);
+        if !has_jobs || !queue.decode(alloc, &mut decoder) {
             break;
         }
         most = (2 * most).min(MOST_AT_ONCE);
     }
-    desk.end_worker(rt, &mut tally);
-    tally.give_back_late(&mut decoder);
-    tally.worked()
+    desk.end_worker(rt, &mut queue);
+    queue.give_back_late(&mut decoder);
+    queue.worked()
 }
 
 /// Brings the results that a worker has in hand and takes its next jobs, or sleeps until some are
@@ -58,32 +58,32 @@ pub fn work_with<P: Decoded, D: Decoder<P> + Drop, R: Wait>(
 fn exchange<P: Decoded, D: Decoder<P>, R: Wait>(
     rt: &R,
     desk: &DeskOf<P>,
-    tally: &mut Tally<P>,
+    queue: &mut WorkerQueue<P>,
     decoder: &mut D,
     most: usize,
 ) -> bool
-    requires none { tally.old.jobs.items ≡ [] }
+    requires none { queue.old.jobs.items ≡ [] }
     requires some { 0 < most }
-    ensures results { tally.new.results.items ≡ [] }
-    ensures jobs { MatchBool result (tally.new.jobs.items ≢ []) (tally.new.jobs.items ≡ []) }
+    ensures results { queue.new.results.items ≡ [] }
+    ensures jobs { MatchBool result (queue.new.jobs.items ≢ []) (queue.new.jobs.items ≡ []) }
 {
     let mut state = desk.state.lock(rt);
-    desk.come_back(&mut state, tally);
+    desk.come_back(&mut state, queue);
     let mut is_first_look = true;
     for _ in rt.forever() {
-        match state.take_next(tally, most, desk.workers) {
+        match state.take_next(queue, most, desk.workers) {
             Next::Ends => return false,
             Next::Sleeps => {
-                if is_first_look && state.status.seats.tell_all() {
+                if is_first_look && state.status.seats.wake_all() {
                     desk.settled.notify_all();
                 }
                 is_first_look = false;
                 state.status.workers.fall_asleep();
-                state = wait_for_job(rt, desk, state, tally, decoder);
+                state = wait_for_job(rt, desk, state, queue, decoder);
                 state.status.workers.awake();
             }
             next => {
-                let wakes = next == Next::Decodes && state.status.workers.tell_one();
+                let wakes = next == Next::Decodes && state.status.workers.wake_one();
                 drop(state);
                 if wakes {
                     desk.job_due.notify_one();
@@ -101,17 +101,17 @@ fn wait_for_job<'a, P: Decoded, D: Decoder<P>, R: Wait>(
     rt: &R,
     desk: &'a DeskOf<P>,
     state: MutexGuard<'a, DeskState<P>>,
-    tally: &mut Tally<P>,
+    queue: &mut WorkerQueue<P>,
     decoder: &mut D,
 ) -> MutexGuard<'a, DeskState<P>>
-    ensures late { tally.new.late.items ≡ [] }
-    ensures jobs { tally.new.jobs.items ≡ tally.old.jobs.items }
-    ensures results { tally.new.results.items ≡ tally.old.results.items }
+    ensures late { queue.new.late.items ≡ [] }
+    ensures jobs { queue.new.jobs.items ≡ queue.old.jobs.items }
+    ensures results { queue.new.results.items ≡ queue.old.results.items }
 {
-    if tally.late() == 0 {
+    if queue.late() == 0 {
         return desk.job_due.wait(rt, state);
     }
     drop(state);
-    tally.give_back_late(decoder);
+    queue.give_back_late(decoder);
     desk.state.lock(rt)
 }

@@ -3,7 +3,7 @@
 use bytes::Bytes;
 use decode_pool::{Desk, Seat};
 use h264_types::pictures::AuId;
-use stand_in_session::{Edit, Place};
+use stand_in_session::{Edit, InsertionPoint};
 use std::sync::Wait;
 use test_builders::Draws;
 
@@ -56,8 +56,8 @@ impl Drawing {
     fn act(&mut self, rt: &impl Wait, desk: &Desk) {
         let (id, text) = (self.id(), self.text());
         match self.draws.below(8) {
-            0 => self.edit(rt, desk, Edit::Insert(Place::First, text)),
-            1 | 2 => self.edit(rt, desk, Edit::Insert(Place::After(id), text)),
+            0 => self.edit(rt, desk, Edit::Insert(InsertionPoint::First, text)),
+            1 | 2 => self.edit(rt, desk, Edit::Insert(InsertionPoint::After(id), text)),
             3 => self.edit(rt, desk, Edit::Replace(id, text)),
             4 | 5 => self.edit(rt, desk, Edit::Delete(id)),
             _ => {

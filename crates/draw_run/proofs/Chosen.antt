@@ -59,9 +59,9 @@ pub chosen-more : (from units : ℕ) (all : List KeptUnit) (unit : KeptUnit) →
 chosen-more zero units all unit some late few = absurd (some refl)
 chosen-more (suc before) units all unit some late few =
     let shown = drop before all in
-    let room : length shown < units = omega (arith, few, length-take units shown) in
-    ap (λ l. l ++ unit ∷ []) (take_all units shown (omega (arith, room)))
-    ∙ sym (take_all units (shown ++ unit ∷ []) (omega (arith, room, length-append shown (unit ∷ []))))
+    let capacity : length shown < units = omega (arith, few, length-take units shown) in
+    ap (λ l. l ++ unit ∷ []) (take_all units shown (omega (arith, capacity)))
+    ∙ sym (take_all units (shown ++ unit ∷ []) (omega (arith, capacity, length-append shown (unit ∷ []))))
     ∙ ap (take units) (sym (drop-append-le before all (unit ∷ []) (omega (arith, late))))
 
 -- of no unit none is shown

@@ -12,7 +12,7 @@ use Rattle.plan_stream.specs.Streams.{numbered_from}
 use Rattle.request_core.specs.Fold.{outcomes_of}
 use Rattle.stream_session.specs.Doubting.{seen_in}
 use Rattle.stream_svg.specs.Pages.{document_text}
-use Rattle.stream_svg.specs.declared.caption.Caption.{Caption}
+use Rattle.stream_svg.specs.declared.writing.Caption.{Caption}
 use Rattle.stream_svg.specs.declared.layout.Layout.{Layout}
 use Rattle.stream_svg.specs.declared.unit.DrawnUnit.{DrawnUnit}
 use Rattle.draw_run.specs.Chosen.{chosen, kept_from}

@@ -10,7 +10,7 @@ use Rattle.plan_stream.specs.Streams.{numbered_from}
 use Rattle.plan_stream.proofs.Streams.{length-numbered_from, numbered_from-push}
 use Rattle.stand_in_session.specs.Machines.{OutValue, Machine}
 use Rattle.stream_edits.specs.declared.edits.Edit.TheVariants.{Insert}
-use Rattle.stream_edits.specs.declared.edits.Place.{Place}
+use Rattle.stream_edits.specs.declared.edits.InsertionPoint.{InsertionPoint}
 use Rattle.stream_edits.specs.declared.receipts.Receipt.{Receipt}
 use Rattle.stream_edits.specs.Edits.{Register}
 use Rattle.stream_edits.specs.Streams.{Stream, ids_of, start_of}
@@ -41,11 +41,11 @@ none_kept old loaded key has = ⊎_elim
     (λ cached. no_item key (subst (λ (l : List Key). Contains l key) loaded.none_cached cached)) has
 
 -- nothing is put into a cache where nothing was held
-none_put : (room : ℕ) (gone stay cached : List Key) (lost : ℕ) → gone ≡ [] → stay ≡ [] → ArePut room gone stay cached lost → cached ≡ []
-none_put room gone stay cached lost none left put =
-    (subst (λ (l : List Key). ArePut room l stay cached lost) none put).0 ∙ left
+none_put : (capacity : ℕ) (gone stay cached : List Key) (lost : ℕ) → gone ≡ [] → stay ≡ [] → ArePut capacity gone stay cached lost → cached ≡ []
+none_put capacity gone stay cached lost none left put =
+    (subst (λ (l : List Key). ArePut capacity l stay cached lost) none put).0 ∙ left
 
-pub loaded-more : (parts : List (List (List ℕ))) (old new : Machine) (unit : List (List ℕ)) (place : Place) (receipt : Receipt)
+pub loaded-more : (parts : List (List (List ℕ))) (old new : Machine) (unit : List (List ℕ)) (place : InsertionPoint) (receipt : Receipt)
     → HasLoaded parts old → start_of old.register.stream place ≡ Some (length old.register.stream)
     → IsAccepted (joined unit) unit → Edits old (Insert place (joined unit)) receipt new
     → HasLoaded (parts ++ unit ∷ []) new
@@ -67,11 +67,11 @@ loaded-more parts old new unit place receipt loaded stands accepted edits =
       given_is = made.given_is ∙ (id ∙ omega (arith, length-append parts (unit ∷ [])));
       none_out = edits.refits.out_stays ∙ loaded.none_out;
       none_held = no_items new.held (λ key has. none_kept old loaded key ((edits.refits.held_are key).0 has).1);
-      none_cached = none_put old.room edits.refits.gone edits.refits.stay new.cached edits.refits.lost
+      none_cached = none_put old.capacity edits.refits.gone edits.refits.stay new.cached edits.refits.lost
           (subst (λ (l : List Key). IsLeft (IsInUse (store_of new)) l edits.refits.gone) loaded.none_held edits.refits.go)
           (subst (λ (l : List Key). IsLeft (IsInUse (store_of new)) l edits.refits.stay) loaded.none_cached edits.refits.leave)
           edits.refits.cached_are;
-      room_is = edits.refits.room_stays ∙ loaded.room_is;
+      capacity_is = edits.refits.capacity_stays ∙ loaded.capacity_is;
     }
 
 -- the stream stays that of the text where only pictures come
@@ -87,5 +87,5 @@ held-of text old new is keeps holds = record {
       (λ used. subst (λ (r : Register). Contains (keys_of (zip (ids_of r.stream) (outcomes_of r.stream))) (Some key)) (sym keeps.register_stays) used)
       (keeps.held key has);
   none_cached = keeps.cached_stay ∙ is.loaded.none_cached;
-  room_is = keeps.room_stays ∙ is.loaded.room_is;
+  capacity_is = keeps.capacity_stays ∙ is.loaded.capacity_is;
 }

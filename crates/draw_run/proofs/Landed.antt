@@ -59,7 +59,7 @@ used-still old new key same used =
 pub keeps-nothing : (machine : Machine) → machine.jobs_out ≡ [] → KeepsRest machine machine
 keeps-nothing machine none = record {
   register_stays = refl;
-  room_stays = refl;
+  capacity_stays = refl;
   cached_stay = refl;
   none_out = none;
   held = λ key has. inl has;
@@ -69,7 +69,7 @@ keeps-nothing machine none = record {
 pub keeps-then : (old between new : Machine) → KeepsRest old between → KeepsRest between new → KeepsRest old new
 keeps-then old between new first next = record {
   register_stays = next.register_stays ∙ first.register_stays;
-  room_stays = next.room_stays ∙ first.room_stays;
+  capacity_stays = next.capacity_stays ∙ first.capacity_stays;
   cached_stay = next.cached_stay ∙ first.cached_stay;
   none_out = next.none_out;
   held = λ key has. ⊎_elim (λ there. first.held key there)
@@ -82,7 +82,7 @@ keeps-none old new none answers =
     let store : store_of new ≡ store_of old = answers.0.1 in
     record {
       register_stays = answers.1.1;
-      room_stays = ap (λ (s : StoreValue). s.room) store;
+      capacity_stays = ap (λ (s : StoreValue). s.capacity) store;
       cached_stay = ap (λ (s : StoreValue). s.cached) store;
       none_out = ap (λ (s : StoreValue). s.jobs_out) store ∙ none;
       held = λ key has. inl (subst (λ (s : StoreValue). Contains s.held key) store has);
@@ -112,7 +112,7 @@ module _ (old between new : Machine) (job : JobValue) (none : old.jobs_out ≡ [
       let given = takes.0.gives.new_is in
       record {
         register_stays = lands.1.1 ∙ takes.1.1;
-        room_stays = ap (λ (s : StoreValue). s.room) store ∙ ap (λ (s : StoreValue). s.room) given;
+        capacity_stays = ap (λ (s : StoreValue). s.capacity) store ∙ ap (λ (s : StoreValue). s.capacity) given;
         cached_stay = ap (λ (s : StoreValue). s.cached) store ∙ ap (λ (s : StoreValue). s.cached) given;
         none_out = left (store_of new) lands.0.2.0 lands.0.2.1 lands.0.2.2.stands (ap (λ (s : StoreValue). s.jobs_out) store);
         held = λ key has. inl (subst (λ (s : StoreValue). Contains s.held key) given (subst (λ (s : StoreValue). Contains s.held key) store has));
@@ -123,7 +123,7 @@ module _ (old between new : Machine) (job : JobValue) (none : old.jobs_out ≡ [
       let out = lands.0.2.1 in
       record {
         register_stays = lands.1.1 ∙ takes.1.1;
-        room_stays = ap (λ (s : StoreValue). s.room) store ∙ ap (λ (s : StoreValue). s.room) given;
+        capacity_stays = ap (λ (s : StoreValue). s.capacity) store ∙ ap (λ (s : StoreValue). s.capacity) given;
         cached_stay = ap (λ (s : StoreValue). s.cached) store ∙ ap (λ (s : StoreValue). s.cached) given;
         none_out = left (store_of new) lands.0.2.0 out lands.0.2.2.stands (ap (λ (s : StoreValue). s.jobs_out) store);
         held = λ key has. ⊎_elim (λ there. inl (subst (λ (s : StoreValue). Contains s.held key) given there))

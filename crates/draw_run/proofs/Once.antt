@@ -3,10 +3,10 @@ use Rattle.std.proofs.Common.{◌≡◌, ◌≢◌, Bool, true, false, ⊎_elim,
 use Rattle.std.specs.Prelude.{Contains}
 use Rattle.std.proofs.lemmas.List.Elements.{Contains-append_left, Contains-get_or, Contains-push, Contains-push_cases}
 use Rattle.std.proofs.lemmas.List.Quantifiers.{all_pairs_push}
-use Rattle.stream_svg.specs.declared.unit.Reference.{Reference}
+use Rattle.stream_svg.specs.declared.unit.DrawnReference.{DrawnReference}
 use Rattle.draw_run.specs.Lists.{AreEachOnce}
 
-module _ (before references : List Reference) (reference : Reference) (are : AreEachOnce before references) where
+module _ (before references : List DrawnReference) (reference : DrawnReference) (are : AreEachOnce before references) where
   -- one that is among them is named once more
   pub named-again : Contains references reference → AreEachOnce (before ++ reference ∷ []) references
   named-again there = record {

@@ -4,8 +4,8 @@ use Rattle.std.proofs.lemmas.Option.{same_Some}
 use Rattle.unit_outcomes.specs.InDoubt.{AreDoubts, IdsDiffer, IsDoubt}
 use Rattle.unit_outcomes.specs.SeenUnits.{HasId, IsIdrAt, SeenUnit}
 use Rattle.unit_outcomes.specs.Walks.{IsBefore}
-use Rattle.unit_outcomes.specs.declared.doubts.doubt.Doubt.{Doubt}
-use Rattle.unit_outcomes.specs.declared.doubts.walk.Walk.{Walk}
+use Rattle.unit_outcomes.specs.declared.doubts.walk.Doubt.{Doubt}
+use Rattle.unit_outcomes.specs.declared.doubts.walk.DoubtWalk.{DoubtWalk}
 use Rattle.unit_outcomes.proofs.Columns.{told_more, told_none}
 use Rattle.unit_outcomes.specs.declared.outcome.Outcome.{Outcome}
 use Rattle.plan_stream.specs.Streams.{numbered_from}
@@ -53,7 +53,7 @@ ids_differ parts outcomes at other id here there =
     omega (arith, one, two)
 
 -- a walk that begins
-pub walked-none : (walk : Walk) → ((units : List SeenUnit) (at : ℕ) → (at ≡ 0) ⊎ IsIdrAt units at → IsBefore units at walk)
+pub walked-none : (walk : DoubtWalk) → ((units : List SeenUnit) (at : ℕ) → (at ≡ 0) ⊎ IsIdrAt units at → IsBefore units at walk)
     → AreWalked [] walk []
 walked-none walk begins = record {
   walk_is = λ rest differ. begins rest 0 (inl refl);
@@ -61,7 +61,7 @@ walked-none walk begins = record {
 }
 
 -- a walk over one unit more
-pub walked-more : (seen : List SeenUnit) (walk next : Walk) (doubts : List Doubt) (unit : SeenUnit) (doubt : Doubt)
+pub walked-more : (seen : List SeenUnit) (walk next : DoubtWalk) (doubts : List Doubt) (unit : SeenUnit) (doubt : Doubt)
     → AreWalked seen walk doubts
     → ((units : List SeenUnit) (at : ℕ) → IdsDiffer units → slice_get units at ≡ Some unit → IsBefore units at walk
     → IsDoubt units at doubt × IsBefore units (at + 1) next)

@@ -1,6 +1,6 @@
 -- What a drawing tells of units in doubt.
 use Rattle.std.specs.Prelude.{ℕ, ◌-◌, ◌==◌, ◌++◌, Bool, true, false, List, [], Option, None, Some, codes, decimal, slice_get, if◌then◌else◌}
-use Rattle.unit_outcomes.specs.declared.doubts.doubt.Doubt.{Doubt}
+use Rattle.unit_outcomes.specs.declared.doubts.walk.Doubt.{Doubt}
 
 -- nothing is told of a unit
 abbrev pub no_doubt : Doubt

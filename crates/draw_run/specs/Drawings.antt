@@ -2,18 +2,18 @@
 use Rattle.std.specs.Prelude.{◌≡◌, ℕ, ◌≤◌, Bool, false, List, length, Option, ◌⊎◌}
 use Rattle.std.specs.Io.KnownBytes.{Appends, Keeps}
 use Rattle.console_io.specs.Chunks.{AppendsFront}
-use Rattle.access_unit.specs.Rooms.{IsStream, IsStreamRefused, most_units}
-use Rattle.access_unit.specs.declared.room.Refusal.{Refusal}
+use Rattle.access_unit.specs.StreamUnits.{IsStream, IsStreamRefused, most_units}
+use Rattle.access_unit.specs.declared.stream_units.Refusal.{Refusal}
 use Rattle.plan_stream.specs.declared.fault.PlanFault.{PlanFault}
 use Rattle.plan_stream.specs.declared.fault.PlanFault.TheVariants.{Unread, Refused, Memory, Unwritten}
 use Rattle.request_core.specs.Fold.{outcomes_of}
 use Rattle.output_order.specs.OutputOrder.{positions_of}
 use Rattle.unit_outcomes.specs.InDoubt.{AreDoubts}
-use Rattle.unit_outcomes.specs.declared.doubts.doubt.Doubt.{Doubt}
+use Rattle.unit_outcomes.specs.declared.doubts.walk.Doubt.{Doubt}
 use Rattle.stream_session.specs.Doubting.{seen_in}
 use Rattle.plan_stream.specs.Streams.{numbered_from}
 use Rattle.stream_svg.specs.Pages.{document_text}
-use Rattle.stream_svg.specs.declared.caption.Caption.{Caption}
+use Rattle.stream_svg.specs.declared.writing.Caption.{Caption}
 use Rattle.stream_svg.specs.declared.layout.Layout.{Layout}
 use Rattle.stream_svg.specs.declared.unit.DrawnUnit.{DrawnUnit}
 use Rattle.unit_printing.specs.Refusals.{refusal_text}

@@ -1,8 +1,8 @@
 -- What `draw --edits` writes of a text and a script (docs/OUTPUT.md).
 use Rattle.std.specs.Prelude.{◌≡◌, ℕ, true, List, [], length, Option, ◌⊎◌}
 use Rattle.std.specs.Io.KnownBytes.{Appends, Keeps}
-use Rattle.access_unit.specs.Rooms.{IsStreamRefused, most_units}
-use Rattle.access_unit.specs.declared.room.Refusal.{Refusal}
+use Rattle.access_unit.specs.StreamUnits.{IsStreamRefused, most_units}
+use Rattle.access_unit.specs.declared.stream_units.Refusal.{Refusal}
 use Rattle.console_io.specs.Chunks.{AppendsFront}
 use Rattle.console_io.specs.Messages.{out_of_memory}
 use Rattle.stand_in_session.specs.Machines.{Machine}
@@ -13,11 +13,11 @@ use Rattle.edit_script.specs.declared.script.ScriptFault.TheVariants as scripts
 use Rattle.script_run.specs.Messages.{script_fault_text}
 use Rattle.stream_edits.specs.Streams.{ids_of}
 use Rattle.unit_outcomes.specs.InDoubt.{AreDoubts}
-use Rattle.unit_outcomes.specs.declared.doubts.doubt.Doubt.{Doubt}
+use Rattle.unit_outcomes.specs.declared.doubts.walk.Doubt.{Doubt}
 use Rattle.stream_session.specs.Altered.{with_mark}
 use Rattle.stream_session.specs.Doubting.{seen_in}
 use Rattle.stream_svg.specs.Pages.{document_text}
-use Rattle.stream_svg.specs.declared.caption.Caption.{Caption}
+use Rattle.stream_svg.specs.declared.writing.Caption.{Caption}
 use Rattle.stream_svg.specs.declared.layout.Layout.{Layout}
 use Rattle.stream_svg.specs.declared.unit.DrawnUnit.{DrawnUnit}
 use Rattle.unit_printing.specs.Refusals.{refusal_text}

@@ -3,8 +3,8 @@ use Rattle.std.specs.Prelude.{◌≡◌, ℕ, List, length, map, ◌++◌}
 use Rattle.unit_outcomes.specs.InDoubt.{AreDoubts, IdsDiffer}
 use Rattle.unit_outcomes.specs.SeenUnits.{SeenUnit}
 use Rattle.unit_outcomes.specs.Walks.{IsBefore}
-use Rattle.unit_outcomes.specs.declared.doubts.doubt.Doubt.{Doubt}
-use Rattle.unit_outcomes.specs.declared.doubts.walk.Walk.{Walk}
+use Rattle.unit_outcomes.specs.declared.doubts.walk.Doubt.{Doubt}
+use Rattle.unit_outcomes.specs.declared.doubts.walk.DoubtWalk.{DoubtWalk}
 use Rattle.request_core.specs.States.{no_units}
 use Rattle.request_core.specs.Fold.{outcomes_of}
 use Rattle.request_core.specs.Agreement.{state_from}
@@ -16,7 +16,7 @@ use Rattle.draw_run.specs.declared.drawn_fold.DrawnFold.{DrawnFold}
 
 -- a walk went over the first units of a stream, and this is told of each of them, whatever units come
 -- after them
-pub record AreWalked (seen : List SeenUnit) (walk : Walk) (doubts : List Doubt) : Type 0 where
+pub record AreWalked (seen : List SeenUnit) (walk : DoubtWalk) (doubts : List Doubt) : Type 0 where
   pub walk_is : (rest : List SeenUnit) → IdsDiffer (seen ++ rest) → IsBefore (seen ++ rest) (length seen) walk
   pub doubts_are : (rest : List SeenUnit) → IdsDiffer (seen ++ rest) → AreDoubts (seen ++ rest) 0 (length seen) doubts
 

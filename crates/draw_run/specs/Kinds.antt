@@ -7,9 +7,9 @@ use Rattle.h264_controls.specs.declared.request.Request.{Request}
 use Rattle.unit_outcomes.specs.declared.outcome.Outcome.{Outcome}
 use Rattle.unit_outcomes.specs.declared.outcome.Outcome.TheVariants.{Plan, Fault, Empty}
 use Rattle.unit_outcomes.specs.declared.outcome.Plan.{Plan as PlanValue}
-use Rattle.stream_svg.specs.declared.unit.Kind.{Kind}
-use Rattle.stream_svg.specs.declared.unit.Kind.TheVariants as kinds
-use Rattle.stream_svg.specs.declared.unit.Picture.{Picture}
+use Rattle.stream_svg.specs.declared.unit.UnitKind.{UnitKind}
+use Rattle.stream_svg.specs.declared.unit.UnitKind.TheVariants as kinds
+use Rattle.stream_svg.specs.declared.unit.DrawnPicture.{DrawnPicture}
 use Rattle.stream_svg.specs.declared.unit.SliceTypes.{SliceTypes}
 
 -- slices of this type have no list
@@ -38,7 +38,7 @@ is_bipredicted Si = false
 
 -- the type of a request's slice
 abbrev pub type_of : Request → SliceType
-type_of request = request.work.controls.slice_params.slice_type
+type_of request = request.body.controls.slice_params.slice_type
 
 -- which types the slices have
 abbrev pub types_of : List Request → SliceTypes
@@ -49,7 +49,7 @@ types_of requests = record {
 }
 
 -- what is drawn of a valid unit with this position in output order
-abbrev pub picture_of : PlanValue → Option ℕ → Picture
+abbrev pub picture_of : PlanValue → Option ℕ → DrawnPicture
 picture_of plan position = record {
   types = types_of plan.requests;
   position = unwrap_or position 0;
@@ -57,7 +57,7 @@ picture_of plan position = record {
 }
 
 -- what a unit is drawn as
-abbrev pub kind_of : Outcome → Option ℕ → Kind
+abbrev pub kind_of : Outcome → Option ℕ → UnitKind
 kind_of (Plan plan) position = kinds.Picture (picture_of plan position)
 kind_of (Fault fault) position = kinds.Fault fault
 kind_of Empty position = kinds.Empty

@@ -9,10 +9,10 @@ use Rattle.stream_session.specs.Streams.{outcome_in, position_in}
 use Rattle.stream_svg.specs.declared.unit.EditMark.{EditMark}
 use Rattle.stream_svg.specs.declared.unit.PictureState.{PictureState}
 use Rattle.stream_svg.specs.declared.unit.PictureState.TheVariants.{Stayed, Pending}
-use Rattle.stream_svg.specs.declared.caption.Caption.{Caption}
+use Rattle.stream_svg.specs.declared.writing.Caption.{Caption}
 use Rattle.stream_svg.specs.declared.unit.DrawnUnit.{DrawnUnit}
 use Rattle.unit_outcomes.specs.declared.outcome.Outcome.{Outcome}
-use Rattle.unit_outcomes.specs.declared.doubts.doubt.Doubt.{Doubt}
+use Rattle.unit_outcomes.specs.declared.doubts.walk.Doubt.{Doubt}
 use Rattle.draw_run.specs.Shown.{IsShownBy}
 
 -- all pictures are held: no unit is pending

@@ -1,10 +1,10 @@
 -- Units as they are drawn, each with what is said of it (docs/OUTPUT.md).
 use Rattle.std.specs.Prelude.{◌≡◌, ℕ, ◌++◌, List, length, Option, None, Some, slice_get}
-use Rattle.unit_outcomes.specs.declared.doubts.doubt.Doubt.{Doubt}
+use Rattle.unit_outcomes.specs.declared.doubts.walk.Doubt.{Doubt}
 use Rattle.unit_outcomes.specs.declared.outcome.Outcome.{Outcome}
 use Rattle.unit_printing.specs.UnitLines.{outcome_lines}
 use Rattle.stream_svg.specs.Captions.{lines_of}
-use Rattle.stream_svg.specs.declared.caption.Caption.{Caption}
+use Rattle.stream_svg.specs.declared.writing.Caption.{Caption}
 use Rattle.stream_svg.specs.declared.unit.DrawnUnit.{DrawnUnit}
 use Rattle.stream_svg.specs.declared.unit.EditMark.{EditMark}
 use Rattle.draw_run.specs.Units.{IsUnitOf}

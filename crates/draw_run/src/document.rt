@@ -8,7 +8,7 @@ ghost use Rattle.draw_run.specs.Choosing.{start_among};
 ghost use Rattle.draw_run.specs.EditedDrawings.{IsDrawnOf};
 ghost use Rattle.draw_run.specs.Making.{AreMade};
 
-use crate::edited_choice::EditedChoice;
+use crate::choice::EditedChoice;
 use crate::edits::make_edits;
 use crate::shown::shown_units;
 use edit_script::EditCommand;

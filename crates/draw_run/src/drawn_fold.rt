@@ -1,7 +1,7 @@
 //! The fold over the units of a stream, with what is kept of those that are drawn.
 
 ghost use Rattle.std.specs.Prelude.{◌≡◌, ◌≢◌, ◌⊎◌, ◌+◌, ◌<◌, ◌≤◌, ◌++◌, [], ◌∷◌, List, length, IfOk, OnOk, true, false, vec_len};
-ghost use Rattle.access_unit.specs.Rooms.{most_units};
+ghost use Rattle.access_unit.specs.StreamUnits.{most_units};
 ghost use Rattle.unit_outcomes.specs.References.{is_of_reference};
 ghost use Rattle.draw_run.specs.Chosen.{chosen};
 ghost use Rattle.draw_run.specs.declared.drawn_fold.KeptUnit.{KeptUnit as KeptUnitValue};
@@ -14,7 +14,7 @@ use request_core::{State, Steps, step};
 use std::alloc::{AllocError, Global};
 use std::mem::replace;
 use unit_outcomes::Outcome;
-use unit_outcomes::doubts::{Doubt, Walk};
+use unit_outcomes::doubts::{Doubt, DoubtWalk};
 
 /// The fold over the units so far, with what is kept of those that are drawn.
 #[derive(Drop)]
@@ -23,7 +23,7 @@ pub(crate) struct DrawnFold {
     /// Each unit's outcome, without its requests.
     pub(crate) outcomes: Vec<Outcome>,
     /// What was found of breaks so far.
-    pub(crate) walk: Walk,
+    pub(crate) walk: DoubtWalk,
     /// What is told of each unit's doubt.
     pub(crate) doubts: Vec<Doubt>,
     pub(crate) choice: Choice,
@@ -48,7 +48,7 @@ impl DrawnFold {
         ensures folded { IfOk result (λ fold. IsFoldOf fold [] fold) }
         ensures choice { IfOk result (λ fold. fold.choice ≡ choice) }
     {
-        let walk = Walk::new(alloc);
+        let walk = DoubtWalk::new(alloc);
         let doubts = Vec::new(alloc);
         Ok(DrawnFold {
             state: State::new(alloc)?,
@@ -76,7 +76,7 @@ impl UnitFold for DrawnFold {
         let id = AuId::new(self.outcomes.len() as u32 + 1);
         let mut steps = Steps::new();
         let (state, outcome) = step(alloc, &self.state, id, unit, &mut steps)?;
-        let walk = replace(&mut self.walk, Walk::new(alloc));
+        let walk = replace(&mut self.walk, DoubtWalk::new(alloc));
         let (walk, doubt) = walk.pass(alloc, id, is_reference(unit), &outcome)?;
         self.walk = walk;
         self.doubts.push(doubt)?;

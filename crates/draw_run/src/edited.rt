@@ -7,8 +7,8 @@ ghost use Rattle.draw_run.specs.EditedDrawings.{EndsBy, WritesEdited, edits_faul
 ghost use Rattle.draw_run.specs.Loading.{IsHeld, IsLoadFault};
 ghost use Rattle.draw_run.specs.declared.fault.EditsFault.{EditsFault as Fault};
 
+use crate::choice::EditedChoice;
 use crate::document::edited_drawing;
-use crate::edited_choice::EditedChoice;
 use crate::fault::{EditsFault, say_edits_fault};
 use crate::loading::loaded;
 use crate::settling::settle;

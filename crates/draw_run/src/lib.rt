@@ -16,7 +16,6 @@ mod draw;
 mod drawn;
 mod drawn_fold;
 mod edited;
-mod edited_choice;
 mod edits;
 mod fault;
 mod loading;
@@ -24,8 +23,7 @@ mod settling;
 mod shown;
 pub mod unit_drawing;
 
-pub use choice::Choice;
+pub use choice::{Choice, EditedChoice};
 pub use draw::draw_on;
 pub use edited::draw_edited;
-pub use edited_choice::EditedChoice;
 pub use stream_svg::MOST_UNITS as MOST_DRAWN;

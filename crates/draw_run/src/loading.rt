@@ -14,7 +14,7 @@ use std::thread::Threads;
 
 /// For how many pictures that no unit has any more the session has room, as a script's has by
 /// default.
-const ROOM: u16 = 64;
+const CAPACITY: u16 = 64;
 
 /// A session with the stream of this text.
 pub(crate) fn loaded(
@@ -36,7 +36,7 @@ pub(crate) fn loaded(
 fn session_of(alloc: Global, units: Vec<HashedUnit>) -> Result<Session, AllocError>
     ensures { IfOk result (HasLoaded units.items) }
 {
-    let Ok(mut session) = Session::new(alloc, Config { cache: ROOM }) else {
+    let Ok(mut session) = Session::new(alloc, Config { cache: CAPACITY }) else {
         return Err(AllocError);
     };
     for unit in units {

@@ -2,7 +2,7 @@
 
 ghost use Rattle.std.specs.Prelude.{◌≡◌, ◌+◌, ◌≤◌, [], IfOk, IsErrOf, OnOk, false, true};
 ghost use Rattle.picture_store.specs.Jobs.{most_jobs};
-ghost use Rattle.picture_store.specs.declared.refusals.TakeRefused.TheVariants.{JobsSpent};
+ghost use Rattle.picture_store.specs.declared.answers.TakeRefused.TheVariants.{JobsSpent};
 ghost use Rattle.draw_run.specs.Loading.{KeepsRest};
 ghost use Rattle.draw_run.specs.Marks.{HoldsAll};
 

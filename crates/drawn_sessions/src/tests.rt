@@ -98,14 +98,14 @@ struct List {
 
 impl List {
     /// Both with an empty stream, and with room for so many pictures in the cache.
-    fn new(alloc: Global, session: Session, room: u16) -> List {
+    fn new(alloc: Global, session: Session, capacity: u16) -> List {
         List {
             hands: Hands {
                 session,
                 device: Device::new(alloc),
                 inputs: Vec::new(alloc),
             },
-            plain: Plain::new(alloc, room),
+            plain: Plain::new(alloc, capacity),
             names: Names {
                 now: Vec::new(alloc),
                 seen: Vec::new(alloc),
@@ -165,16 +165,16 @@ fn list_agrees(
     alloc: Global,
     draws: &mut Draws,
     counts: &mut Counts,
-    room: u16,
+    capacity: u16,
 ) -> Result<bool, AllocError> {
-    let Ok(session) = Session::new(alloc, Config { cache: room }) else {
+    let Ok(session) = Session::new(alloc, Config { cache: capacity }) else {
         return Ok(false);
     };
-    List::new(alloc, session, room).agrees(alloc, draws, counts)
+    List::new(alloc, session, capacity).agrees(alloc, draws, counts)
 }
 
 /// Whether they agree on lists that are drawn by a seed, which show something.
-fn lists_agree(alloc: Global, seed: u64, room: u16) -> Result<bool, AllocError> {
+fn lists_agree(alloc: Global, seed: u64, capacity: u16) -> Result<bool, AllocError> {
     let mut draws = Draws::new(seed);
     let mut counts = Counts {
         accepted: 0,
@@ -191,7 +191,7 @@ fn lists_agree(alloc: Global, seed: u64, room: u16) -> Result<bool, AllocError> 
         empty: 0,
     };
     for _ in 0..LISTS {
-        if !list_agrees(alloc, &mut draws, &mut counts, room)? {
+        if !list_agrees(alloc, &mut draws, &mut counts, capacity)? {
             return Ok(false);
         }
     }
@@ -199,81 +199,81 @@ fn lists_agree(alloc: Global, seed: u64, room: u16) -> Result<bool, AllocError> 
 }
 
 #[test]
-fn first_lists_with_room_for_1(rt: HostRuntime) {
+fn first_lists_with_capacity_for_1(rt: HostRuntime) {
     assert!(rt; lists_agree(rt.alloc(), 0x9F5A_BF21_08F6_4A04, 1) == Ok(true));
 }
 
 #[test]
-fn second_lists_with_room_for_1(rt: HostRuntime) {
+fn second_lists_with_capacity_for_1(rt: HostRuntime) {
     assert!(rt; lists_agree(rt.alloc(), 0xD2D8_8F9A_5B3E_BAF2, 1) == Ok(true));
 }
 
 #[test]
-fn third_lists_with_room_for_1(rt: HostRuntime) {
+fn third_lists_with_capacity_for_1(rt: HostRuntime) {
     assert!(rt; lists_agree(rt.alloc(), 0x2669_39F8_D918_AB0C, 1) == Ok(true));
 }
 
 #[test]
-fn last_lists_with_room_for_1(rt: HostRuntime) {
+fn last_lists_with_capacity_for_1(rt: HostRuntime) {
     assert!(rt; lists_agree(rt.alloc(), 0x8DDC_710E_B8E9_5BC6, 1) == Ok(true));
 }
 
 #[test]
-fn first_lists_with_room_for_2(rt: HostRuntime) {
+fn first_lists_with_capacity_for_2(rt: HostRuntime) {
     assert!(rt; lists_agree(rt.alloc(), 0xA07E_0488_92A2_17F3, 2) == Ok(true));
 }
 
 #[test]
-fn second_lists_with_room_for_2(rt: HostRuntime) {
+fn second_lists_with_capacity_for_2(rt: HostRuntime) {
     assert!(rt; lists_agree(rt.alloc(), 0xD3FB_D501_E4EA_88E1, 2) == Ok(true));
 }
 
 #[test]
-fn third_lists_with_room_for_2(rt: HostRuntime) {
+fn third_lists_with_capacity_for_2(rt: HostRuntime) {
     assert!(rt; lists_agree(rt.alloc(), 0x278C_7F60_62C4_78FB, 2) == Ok(true));
 }
 
 #[test]
-fn last_lists_with_room_for_2(rt: HostRuntime) {
+fn last_lists_with_capacity_for_2(rt: HostRuntime) {
     assert!(rt; lists_agree(rt.alloc(), 0x8EFF_B676_4295_29B5, 2) == Ok(true));
 }
 
 #[test]
-fn first_lists_with_room_for_3(rt: HostRuntime) {
+fn first_lists_with_capacity_for_3(rt: HostRuntime) {
     assert!(rt; lists_agree(rt.alloc(), 0xA1A1_49F0_1C4D_E5E2, 3) == Ok(true));
 }
 
 #[test]
-fn second_lists_with_room_for_3(rt: HostRuntime) {
+fn second_lists_with_capacity_for_3(rt: HostRuntime) {
     assert!(rt; lists_agree(rt.alloc(), 0xD51F_1A69_6E96_56D0, 3) == Ok(true));
 }
 
 #[test]
-fn third_lists_with_room_for_3(rt: HostRuntime) {
+fn third_lists_with_capacity_for_3(rt: HostRuntime) {
     assert!(rt; lists_agree(rt.alloc(), 0x28AF_C4C7_EC70_46EA, 3) == Ok(true));
 }
 
 #[test]
-fn last_lists_with_room_for_3(rt: HostRuntime) {
+fn last_lists_with_capacity_for_3(rt: HostRuntime) {
     assert!(rt; lists_agree(rt.alloc(), 0x9022_FBDD_CC40_F7A4, 3) == Ok(true));
 }
 
 #[test]
-fn first_lists_with_room_for_4(rt: HostRuntime) {
+fn first_lists_with_capacity_for_4(rt: HostRuntime) {
     assert!(rt; lists_agree(rt.alloc(), 0xA2C4_8F57_A5F9_B3D1, 4) == Ok(true));
 }
 
 #[test]
-fn second_lists_with_room_for_4(rt: HostRuntime) {
+fn second_lists_with_capacity_for_4(rt: HostRuntime) {
     assert!(rt; lists_agree(rt.alloc(), 0xD642_5FD0_F842_24BF, 4) == Ok(true));
 }
 
 #[test]
-fn third_lists_with_room_for_4(rt: HostRuntime) {
+fn third_lists_with_capacity_for_4(rt: HostRuntime) {
     assert!(rt; lists_agree(rt.alloc(), 0x29D3_0A2F_761C_14D9, 4) == Ok(true));
 }
 
 #[test]
-fn last_lists_with_room_for_4(rt: HostRuntime) {
+fn last_lists_with_capacity_for_4(rt: HostRuntime) {
     assert!(rt; lists_agree(rt.alloc(), 0x9146_4145_55EC_C593, 4) == Ok(true));
 }

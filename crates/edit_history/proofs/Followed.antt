@@ -5,16 +5,16 @@ use Rattle.std.proofs.lemmas.Bool.{eqb-true}
 use Rattle.std.proofs.lemmas.List.{set_split}
 use Rattle.std.proofs.lemmas.List.Edits.{length-insert, length-remove}
 use Rattle.std.proofs.lemmas.List.Quantifiers.{position-Some}
-use Rattle.access_unit.specs.Rooms.{most_units}
+use Rattle.access_unit.specs.StreamUnits.{most_units}
 use Rattle.picture_keys.specs.Units.{AreDifferent}
 use Rattle.stream_edits.specs.declared.edits.Edit.{Edit}
 use Rattle.stream_edits.specs.declared.edits.Edit.TheVariants.{Insert, Delete, Replace}
-use Rattle.stream_edits.specs.declared.edits.Place.{Place}
+use Rattle.stream_edits.specs.declared.edits.InsertionPoint.{InsertionPoint}
 use Rattle.stream_edits.specs.Edits.{Register, Makes}
 use Rattle.stream_edits.specs.Refusals.{IsUnit}
 use Rattle.stream_edits.specs.Streams.{Stream, place_among, start_among}
-use Rattle.edit_history.specs.declared.changes.Change.{Change}
-use Rattle.edit_history.specs.declared.changes.Change.TheVariants.{Inserted, Deleted, Replaced}
+use Rattle.edit_history.specs.declared.changes.UnitChange.{UnitChange}
+use Rattle.edit_history.specs.declared.changes.UnitChange.TheVariants.{Inserted, Deleted, Replaced}
 use Rattle.edit_history.specs.Changes.{Changes, IsMore}
 use Rattle.edit_history.specs.Groups.{Leads}
 use Rattle.edit_history.specs.Texts.{Texts, Carries, IsStream}
@@ -24,7 +24,7 @@ use Rattle.edit_history.specs.declared.undo_redo.prepared.PreparedEdit.{Prepared
 use Rattle.edit_history.specs.declared.undo_redo.unit_texts.UnitTexts.{UnitTexts}
 use Rattle.edit_history.specs.Following.{Follows, LeadsTo, ids_after, texts_after}
 use Rattle.edit_history.proofs.Lists.{insert-removed, insert-removed_same, put-same}
-use Rattle.edit_history.proofs.One.{one_edit}
+use Rattle.stream_edits.proofs.OneEdit.{one_edit}
 
 -- the text at a place is that of a unit
 unit-at : (units : Stream) (texts : Texts) (at : ℕ) (d : List ℕ) → Carries units texts → at < length texts → IsUnit (get_or texts at d)
@@ -60,7 +60,7 @@ leads_to units prepared new texts ids texts_are ids_are is bounded changes = rec
   changes = subst (λ (texts : Texts). Changes units.texts.items prepared.change texts) (sym texts_are) changes;
 }
 
--- a list of which a stretch is replaced by one item, and by none
+-- a list of which a range is replaced by one item, and by none
 module _ {X : Type 0} (xs : List X) (at rest : ℕ) (made : List X) where
   brings : (x : X) → rest ≡ at → made ≡ x ∷ [] → take at xs ++ made ++ drop rest xs ≡ insert xs at x
   brings x rest_is made_is =
@@ -83,7 +83,7 @@ module _ {X : Type 0} (xs : List X) (at rest : ℕ) (made : List X) where
       (append_assoc (take at xs) (x ∷ []) (drop (suc at) xs)))
 
 -- an insertion
-pub follows-inserted : (units : UnitTexts) (prepared : PreparedEdit) (place : Place) (text : List ℕ)
+pub follows-inserted : (units : UnitTexts) (prepared : PreparedEdit) (place : InsertionPoint) (text : List ℕ)
     → (AreDifferent units.ids.items → Some prepared.at ≡ start_among units.ids.items place) → prepared.at ≤ length units.texts.items
     → prepared.rest ≡ prepared.at → prepared.ids.items ≡ (units.ids_given + 1) ∷ [] → prepared.texts.items ≡ text ∷ []
     → prepared.ids_given ≡ units.ids_given + 1 → prepared.change ≡ Inserted prepared.at text → Follows units (Insert place text) prepared
@@ -107,7 +107,7 @@ follows-inserted units prepared place text stands within rest_is ids_are texts_a
     (subst (λ (n : ℕ). IsStream new (insert texts at text) (insert ids at (given + 1)) n) (sym given_is)
     (led old (Insert place text) id new (insert texts at text) (insert ids at (given + 1)) (given + 1) leads makes))
     (omega (arith, length-insert texts at text within, more.fits))
-    (subst (λ (change : Change). Changes texts change (insert texts at text)) (sym change_is) more)
+    (subst (λ (change : UnitChange). Changes texts change (insert texts at text)) (sym change_is) more)
 
 -- a deletion
 pub follows-deleted : (units : UnitTexts) (prepared : PreparedEdit) (id : ℕ) (former : List ℕ)
@@ -135,7 +135,7 @@ follows-deleted units prepared id former stands within former_is rest_is ids_are
     (subst (λ (n : ℕ). IsStream new (remove texts at) (remove ids at) n) (sym given_is)
     (led old (Delete id) about new (remove texts at) (remove ids at) given leads makes))
     (omega (arith, fewer, kept.bounded))
-    (subst (λ (change : Change). Changes texts change (remove texts at)) (sym change_is) more)
+    (subst (λ (change : UnitChange). Changes texts change (remove texts at)) (sym change_is) more)
 
 -- a replacement
 pub follows-replaced : (units : UnitTexts) (prepared : PreparedEdit) (id : ℕ) (former text : List ℕ)
@@ -172,4 +172,4 @@ follows-replaced units prepared id former text stands within former_is rest_is i
     (subst (λ (n : ℕ). IsStream new (insert others at text) ids n) (sym given_is)
     (led old (Replace id text) about new (insert others at text) ids given leads makes))
     (omega (arith, length-insert others at text before.within, fewer, kept.bounded))
-    (subst (λ (change : Change). Changes texts change (insert others at text)) (sym change_is) (others, before, after))
+    (subst (λ (change : UnitChange). Changes texts change (insert others at text)) (sym change_is) (others, before, after))

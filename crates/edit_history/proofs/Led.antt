@@ -4,7 +4,7 @@ use Rattle.std.specs.Prelude.{insert, remove}
 use Rattle.std.proofs.Math.Seq.{map-set_same}
 use Rattle.std.proofs.lemmas.List.{map-append, take-map, drop-map, length-map, get_or-map}
 use Rattle.stream_edits.specs.declared.edits.Edit.TheVariants.{Insert, Delete, Replace}
-use Rattle.stream_edits.specs.declared.edits.Place.{Place}
+use Rattle.stream_edits.specs.declared.edits.InsertionPoint.{InsertionPoint}
 use Rattle.stream_edits.specs.Edits.{Register, Inserts, Deletes, Replaces, most_ids}
 use Rattle.picture_keys.specs.Units.{AreDifferent}
 use Rattle.stream_edits.specs.Streams.{Stream, ids_of, place_among, start_among}
@@ -36,7 +36,7 @@ IsStream-length old texts ids given is =
     ap length is.ids_are ∙ (length-map old.stream (λ (unit : ℕ × List (List ℕ)). unit.0) ∙ Carries-length old.stream texts is.carries)
 
 -- an insertion
-pub Leads-inserted : (old : Register) (before after : Texts) (ids : List ℕ) (given at : ℕ) (text : List ℕ) (place : Place)
+pub Leads-inserted : (old : Register) (before after : Texts) (ids : List ℕ) (given at : ℕ) (text : List ℕ) (place : InsertionPoint)
     → IsStream old before ids given → IsMore before at text after → start_among ids place ≡ Some at → given < most_ids
     → Leads old (Insert place text) after (insert ids at (given + 1)) (given + 1)
 Leads-inserted old before after ids given at text place is more stands left =

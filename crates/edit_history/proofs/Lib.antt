@@ -2,7 +2,6 @@ pub mod Carried
 pub mod Led
 pub mod Changed
 pub mod Errors
-pub mod One
 pub mod Lists
 pub mod Followed
 pub mod UndoRedoLed

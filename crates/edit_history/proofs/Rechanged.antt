@@ -3,8 +3,8 @@ use Rattle.std.proofs.Common.{◌≡◌, ℕ, ◌+◌, ◌<◌, ◌≤◌, List,
 use Rattle.std.specs.Prelude.{insert, remove}
 use Rattle.std.proofs.Math.ListN.{drop_of_length-le}
 use Rattle.std.proofs.lemmas.List.Edits.{length-insert}
-use Rattle.edit_history.specs.declared.changes.Change.{Change}
-use Rattle.edit_history.specs.declared.changes.Change.TheVariants.{Inserted, Deleted, Replaced}
+use Rattle.edit_history.specs.declared.changes.UnitChange.{UnitChange}
+use Rattle.edit_history.specs.declared.changes.UnitChange.TheVariants.{Inserted, Deleted, Replaced}
 use Rattle.edit_history.specs.Changes.{Changes, ChangesAll}
 use Rattle.edit_history.specs.Texts.{Texts}
 use Rattle.edit_history.proofs.Changed.{from_change}
@@ -26,7 +26,7 @@ after-replaced old at former text to changes =
     (set-inserted others at former text before.within inside ∙ sym changes.2.more_is)
 
 -- the next one is made
-pub rest-changed : (texts : Texts) (changes : List Change) (index : ℕ) (change : Change) (made to : Texts) → index < length changes
+pub rest-changed : (texts : Texts) (changes : List UnitChange) (index : ℕ) (change : UnitChange) (made to : Texts) → index < length changes
     → change ≡ get_or changes index change → ((to : Texts) → Changes texts change to → made ≡ to) → ChangesAll texts (drop index changes) to
     → ChangesAll made (drop (index + 1) changes) to
 rest-changed texts changes index change made to inside item makes left =
@@ -34,7 +34,7 @@ rest-changed texts changes index change made to inside item makes left =
     subst (λ (texts : Texts). ChangesAll texts (drop (index + 1) changes) to) (sym (makes next.0 next.1)) next.2
 
 -- all are made
-pub all-changed : (texts : Texts) (changes : List Change) (index : ℕ) (to : Texts) → length changes ≤ index → ChangesAll texts (drop index changes) to
+pub all-changed : (texts : Texts) (changes : List UnitChange) (index : ℕ) (to : Texts) → length changes ≤ index → ChangesAll texts (drop index changes) to
     → texts ≡ to
 all-changed texts changes index to late left =
-    subst (λ (rest : List Change). ChangesAll texts rest to) (drop_of_length-le changes late) left
+    subst (λ (rest : List UnitChange). ChangesAll texts rest to) (drop_of_length-le changes late) left

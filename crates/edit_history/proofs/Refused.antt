@@ -1,12 +1,12 @@
 -- Edits that no stream of some texts and ids accepts.
 use Rattle.std.proofs.Common.{◌≡◌, ℕ, List, length, Option, Some, ap, ◌∙◌}
 use Rattle.picture_keys.specs.Units.{AreDifferent}
-use Rattle.stream_edits.specs.declared.edits.Place.{Place}
+use Rattle.stream_edits.specs.declared.edits.InsertionPoint.{InsertionPoint}
 use Rattle.stream_edits.specs.Edits.{Register}
 use Rattle.stream_edits.specs.Streams.{place_among, place_of, start_among, start_of}
 use Rattle.edit_history.proofs.Led.{IsStream-differ, IsStream-length}
 use Rattle.edit_history.specs.declared.undo_redo.unit_texts.UnitTexts.{UnitTexts}
-use Rattle.edit_history.specs.Kept.{IsKept}
+use Rattle.edit_history.specs.KeptTexts.{IsKept}
 
 -- no unit has the id
 pub no-place : (units : UnitTexts) (old : Register) (id at : ℕ) (found : Option ℕ) → ((place : ℕ) → found ≡ Some place → ⊥)
@@ -17,7 +17,7 @@ no-place units old id at found none value kept stands =
     ∙ (ap (λ (ids : List ℕ). place_among ids id) kept.is.ids_are ∙ stands))
 
 -- nor that behind which a unit is inserted
-pub no-start : (units : UnitTexts) (old : Register) (place : Place) (at : ℕ) (found : Option ℕ) → ((start : ℕ) → found ≡ Some start → ⊥)
+pub no-start : (units : UnitTexts) (old : Register) (place : InsertionPoint) (at : ℕ) (found : Option ℕ) → ((start : ℕ) → found ≡ Some start → ⊥)
     → (AreDifferent units.ids.items → found ≡ start_among units.ids.items place) → IsKept units old → start_of old.stream place ≡ Some at → ⊥
 no-start units old place at found none value kept stands =
     none at

@@ -9,7 +9,7 @@ use Rattle.stream_edits.specs.Edits.{Register}
 use Rattle.stream_edits.specs.Streams.{Stream, ids_of}
 use Rattle.stream_edits.specs.Snapshots.{AreReadAs, IsOf, SnapshotValue}
 use Rattle.edit_history.specs.declared.undo_redo.unit_texts.UnitTexts.{UnitTexts}
-use Rattle.edit_history.specs.Kept.{IsKept}
+use Rattle.edit_history.specs.KeptTexts.{IsKept}
 use Rattle.edit_history.specs.Snapshots.{AreOf}
 use Rattle.edit_history.proofs.Refused.{as_many}
 

@@ -5,17 +5,17 @@ use Rattle.stream_edits.specs.declared.edits.Edit.{Edit}
 use Rattle.stream_edits.specs.Edits.{Register}
 use Rattle.stream_edits.specs.Groups.{MakesAll}
 use Rattle.edit_history.specs.declared.history.History.{History}
-use Rattle.access_unit.specs.Rooms.{most_units}
+use Rattle.access_unit.specs.StreamUnits.{most_units}
 use Rattle.edit_history.specs.declared.groups.StepGroup.{StepGroup}
-use Rattle.edit_history.specs.declared.history.Step.{Step as HistoryStep}
+use Rattle.edit_history.specs.declared.history.HistoryStep.{HistoryStep}
 use Rattle.edit_history.specs.Groups.{TakesTo as TakesBy}
 use Rattle.edit_history.specs.Histories.{IsHistory}
 use Rattle.edit_history.specs.Texts.{Texts}
 use Rattle.edit_history.specs.declared.undo_redo.unit_texts.UnitTexts.{UnitTexts}
-use Rattle.edit_history.specs.Kept.{IsKept}
+use Rattle.edit_history.specs.KeptTexts.{IsKept}
 use Rattle.edit_history.specs.States.{TakesTo}
 use Rattle.edit_history.proofs.UndoRedoLed.{kept-as}
-use Rattle.edit_history.proofs.One.{all_edits}
+use Rattle.stream_edits.proofs.OneEdit.{all_edits}
 
 -- a history with the same steps, of which as many are done
 pub history-same : (old new : History) (states : List Texts) (texts : Texts) → new.done ≡ old.done → new.steps.items ≡ old.steps.items

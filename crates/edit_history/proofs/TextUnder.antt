@@ -8,7 +8,7 @@ use Rattle.edit_history.specs.Texts.{Texts, Carries}
 use Rattle.stream_edits.specs.Edits.{Register}
 use Rattle.stream_edits.specs.Streams.{Stream, ids_of, place_among, place_of}
 use Rattle.edit_history.specs.declared.undo_redo.unit_texts.UnitTexts.{UnitTexts}
-use Rattle.edit_history.specs.Kept.{IsKept}
+use Rattle.edit_history.specs.KeptTexts.{IsKept}
 use Rattle.edit_history.specs.Snapshots.{IsTextOf, text_under}
 use Rattle.edit_history.proofs.Followed.{id-at}
 

@@ -2,20 +2,20 @@
 use Rattle.std.proofs.Common.{◌≡◌, ℕ, ◌+◌, ◌<◌, ◌≤◌, List, [], ◌∷◌, ◌++◌, length, drop, get_or, ap, sym, ◌∙◌, subst, arith, refl}
 use Rattle.std.proofs.Math.ListN.{drop_of_length-le}
 use Rattle.std.proofs.lemmas.List.{drop_more}
-use Rattle.access_unit.specs.Rooms.{most_units}
+use Rattle.access_unit.specs.StreamUnits.{most_units}
 use Rattle.stream_edits.specs.declared.edits.Edit.{Edit}
 use Rattle.stream_edits.specs.Edits.{Register, no_units}
 use Rattle.stream_edits.specs.Groups.{MakesAll}
 use Rattle.stream_edits.proofs.GivenIds.{HasIds-journal}
-use Rattle.edit_history.specs.declared.changes.Change.{Change}
-use Rattle.edit_history.specs.declared.changes.Change.TheVariants.{Inserted, Deleted, Replaced}
+use Rattle.edit_history.specs.declared.changes.UnitChange.{UnitChange}
+use Rattle.edit_history.specs.declared.changes.UnitChange.TheVariants.{Inserted, Deleted, Replaced}
 use Rattle.edit_history.specs.Changes.{Changes, ChangesAll}
 use Rattle.edit_history.specs.Texts.{Texts, IsStream}
 use Rattle.edit_history.proofs.Changed.{ChangesAll-push, more-length}
 use Rattle.edit_history.specs.declared.undo_redo.prepared.PreparedEdit.{PreparedEdit}
 use Rattle.edit_history.specs.declared.undo_redo.unit_texts.UnitTexts.{UnitTexts}
 use Rattle.edit_history.specs.Following.{Follows, IsLed, IsRefusedOf, LeadsTo, ids_after, texts_after}
-use Rattle.edit_history.specs.Kept.{AreSame, IsKept}
+use Rattle.edit_history.specs.KeptTexts.{AreSame, IsKept}
 
 -- texts and ids that are the same are those of the same streams
 pub kept-as : (units : UnitTexts) (texts : Texts) (ids : List ℕ) (given : ℕ) (register : Register) → IsStream register texts ids given → length texts ≤ most_units
@@ -54,7 +54,7 @@ kept-taken units prepared new register leads taken =
     kept-as new (texts_after units prepared) (ids_after units prepared) prepared.ids_given register leads.is leads.bounded taken.texts_are taken.ids_are
     taken.given_is
 
-pub changes-taken : (units : UnitTexts) (prepared : PreparedEdit) (new : UnitTexts) (register : Register) (before : Texts) (changes : List Change)
+pub changes-taken : (units : UnitTexts) (prepared : PreparedEdit) (new : UnitTexts) (register : Register) (before : Texts) (changes : List UnitChange)
     → LeadsTo units prepared register → IsTakenIn units prepared new → ChangesAll before changes units.texts.items
     → ChangesAll before (changes ++ prepared.change ∷ []) new.texts.items
 changes-taken units prepared new register before changes leads taken all =
@@ -62,7 +62,7 @@ changes-taken units prepared new register before changes leads taken all =
     (subst (λ (texts : Texts). Changes units.texts.items prepared.change texts) (sym taken.texts_are) leads.changes)
 
 -- so many edits are followed, and the others are left
-pub record IsPartlyLed (texts : Texts) (changes : List Change) (edits : List Edit) (index : ℕ) (new : Register) (units : UnitTexts) : Type 0 where
+pub record IsPartlyLed (texts : Texts) (changes : List UnitChange) (edits : List Edit) (index : ℕ) (new : Register) (units : UnitTexts) : Type 0 where
   pub between : Register
   pub led : IsLed texts changes between units
   pub rest : List ℕ
@@ -86,7 +86,7 @@ from_edit between edits index edit rest new inside item all =
     (drop_more edits index edit inside ∙ ap (λ (first : Edit). first ∷ drop (index + 1) edits) (sym item)) all
 
 -- the next one is followed
-pub partly-more : (texts : Texts) (changes : List Change) (edits : List Edit) (index : ℕ) (edit : Edit) (new : Register) (units between : UnitTexts)
+pub partly-more : (texts : Texts) (changes : List UnitChange) (edits : List Edit) (index : ℕ) (edit : Edit) (new : Register) (units between : UnitTexts)
     (prepared : PreparedEdit) (made : UnitTexts) → index < length edits → edit ≡ get_or edits index edit → AreSame units between
     → Follows between edit prepared → IsTakenIn between prepared made → IsPartlyLed texts changes edits index new units
     → IsPartlyLed texts (changes ++ prepared.change ∷ []) edits (index + 1) new made
@@ -111,7 +111,7 @@ partly-more texts changes edits index edit new units between prepared made insid
         }
 
 -- the next one is refused
-pub partly-refused : (texts : Texts) (changes : List Change) (edits : List Edit) (index : ℕ) (edit : Edit) (new : Register) (units between : UnitTexts)
+pub partly-refused : (texts : Texts) (changes : List UnitChange) (edits : List Edit) (index : ℕ) (edit : Edit) (new : Register) (units between : UnitTexts)
     → index < length edits → edit ≡ get_or edits index edit → AreSame units between → IsRefusedOf between edit
     → IsPartlyLed texts changes edits index new units → ⊥
 partly-refused texts changes edits index edit new units between inside item same refused is =
@@ -122,7 +122,7 @@ partly-refused texts changes edits index edit new units between inside item same
     go (id ∷ rest) left = refused is.between id left.0 (kept-same units between is.between same is.led.kept) left.1
 
 -- all are followed
-pub partly-whole : (texts : Texts) (changes : List Change) (edits : List Edit) (index : ℕ) (new : Register) (units : UnitTexts) → length edits ≤ index
+pub partly-whole : (texts : Texts) (changes : List UnitChange) (edits : List Edit) (index : ℕ) (new : Register) (units : UnitTexts) → length edits ≤ index
     → IsPartlyLed texts changes edits index new units → IsLed texts changes new units
 partly-whole texts changes edits index new units late is =
     go is.rest (subst (λ (left : List Edit). MakesAll is.between left is.rest new) (drop_of_length-le edits late) is.left)
@@ -135,7 +135,7 @@ partly-whole texts changes edits index new units late is =
     go (id ∷ rest) left = absurd left
 
 -- changes leave as many units at most as a stream may have
-pub bounded-changed : (old : Texts) (changes : List Change) (new : Texts) → ChangesAll old changes new → length old ≤ most_units → length new ≤ most_units
+pub bounded-changed : (old : Texts) (changes : List UnitChange) (new : Texts) → ChangesAll old changes new → length old ≤ most_units → length new ≤ most_units
 bounded-changed old [] new all bounded = subst (λ (texts : Texts). length texts ≤ most_units) all bounded
 bounded-changed old (Inserted at text ∷ changes) new all bounded =
     bounded-changed all.0 changes new all.2 (omega (arith, more-length old at text all.0 all.1, all.1.fits))

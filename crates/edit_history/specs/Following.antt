@@ -1,8 +1,8 @@
 -- Texts that follow the edits of a stream.
 use Rattle.std.specs.Prelude.{ℕ, ◌+◌, ◌-◌, ◌≤◌, List, ◌++◌, length, take, drop, vec_len}
 use Rattle.std.specs.Vec.{vec_capacity}
-use Rattle.access_unit.specs.Rooms.{most_units}
-use Rattle.edit_history.specs.declared.changes.Change.{Change}
+use Rattle.access_unit.specs.StreamUnits.{most_units}
+use Rattle.edit_history.specs.declared.changes.UnitChange.{UnitChange}
 use Rattle.edit_history.specs.Changes.{Changes, ChangesAll}
 use Rattle.edit_history.specs.Texts.{Texts, IsStream}
 use Rattle.stream_edits.specs.declared.edits.Edit.{Edit}
@@ -11,7 +11,7 @@ use Rattle.stream_edits.specs.Groups.{MakesAll}
 use Rattle.edit_history.specs.declared.undo_redo.prepared.PreparedEdit.{PreparedEdit}
 use Rattle.edit_history.specs.declared.undo_redo.prepared.PreparedGroup.{PreparedGroup}
 use Rattle.edit_history.specs.declared.undo_redo.unit_texts.UnitTexts.{UnitTexts}
-use Rattle.edit_history.specs.Kept.{IsKept}
+use Rattle.edit_history.specs.KeptTexts.{IsKept}
 
 -- the ids after a prepared edit is taken in
 abbrev pub ids_after : UnitTexts → PreparedEdit → List ℕ
@@ -27,7 +27,7 @@ pub record HasSpace (units : UnitTexts) : Type 0 where
   pub texts_fit : vec_len units.texts + 1 ≤ vec_capacity units.texts
 
 -- what is prepared lies within the units, and there is room for it
-pub record HasRoom (units : UnitTexts) (prepared : PreparedEdit) : Type 0 where
+pub record HasCapacity (units : UnitTexts) (prepared : PreparedEdit) : Type 0 where
   pub ordered : prepared.at ≤ prepared.rest
   pub in_ids : prepared.rest ≤ vec_len units.ids
   pub in_texts : prepared.rest ≤ vec_len units.texts
@@ -51,7 +51,7 @@ abbrev pub IsRefusedOf : UnitTexts → Edit → Type 0
 IsRefusedOf units edit = (old : Register) (id : ℕ) (new : Register) → IsKept units old → Makes old edit id new → ⊥
 
 -- the changes lead from the texts to these units, which are those of the stream
-pub record IsLed (texts : Texts) (made : List Change) (new : Register) (units : UnitTexts) : Type 0 where
+pub record IsLed (texts : Texts) (made : List UnitChange) (new : Register) (units : UnitTexts) : Type 0 where
   pub kept : IsKept units new
   pub changes : ChangesAll texts made units.texts.items
 

@@ -3,7 +3,7 @@ pub mod Changes
 pub mod Groups
 pub mod Refusals
 pub mod Histories
-pub mod Kept
+pub mod KeptTexts
 pub mod Following
 pub mod States
 pub mod Snapshots

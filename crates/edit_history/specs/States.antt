@@ -6,10 +6,10 @@ use Rattle.edit_history.specs.Texts.{Texts}
 use Rattle.stream_edits.specs.declared.edits.Edit.{Edit}
 use Rattle.stream_edits.specs.Edits.{Register}
 use Rattle.stream_edits.specs.Groups.{MakesAll}
-use Rattle.edit_history.specs.declared.undo_redo.prepared.Step.{Step}
+use Rattle.edit_history.specs.declared.undo_redo.prepared.OpenStep.{OpenStep}
 use Rattle.edit_history.specs.declared.undo_redo.undo_redo.UndoRedo.{UndoRedo}
 use Rattle.edit_history.specs.declared.undo_redo.unit_texts.UnitTexts.{UnitTexts}
-use Rattle.edit_history.specs.Kept.{AreSame, IsKept}
+use Rattle.edit_history.specs.KeptTexts.{AreSame, IsKept}
 
 -- the stream's units have the texts that are kept, which are those after the steps that are done; the
 -- states are the texts before the first step and after each
@@ -18,7 +18,7 @@ pub record IsUndoRedo (it : UndoRedo) (states : List Texts) (register : Register
   pub history : IsHistory it.history states it.units.texts.items
 
 -- a step is under way that began with these texts
-pub record IsUnderWay (it : UndoRedo) (step : Step) (states : List Texts) (before : Texts) (register : Register) : Type 0 where
+pub record IsUnderWay (it : UndoRedo) (step : OpenStep) (states : List Texts) (before : Texts) (register : Register) : Type 0 where
   pub kept : IsKept it.units register
   pub history : IsHistory it.history states before
   pub changes : ChangesAll before step.changes.items it.units.texts.items

@@ -9,7 +9,7 @@ use std::alloc::AllocError;
 
 /// What an accepted edit changed. A place is that before which so many units stand.
 #[derive(Debug, Drop)]
-pub enum Change {
+pub enum UnitChange {
     /// A unit of this text stands at the place.
     Inserted(usize, Bytes),
     /// The unit of this text that stood at the place is gone.
@@ -18,30 +18,30 @@ pub enum Change {
     Replaced(usize, Bytes, Bytes),
 }
 
-impl Change {
+impl UnitChange {
     /// The change once more; it shares the bytes.
-    pub fn copy(&self) -> Result<Change, AllocError>
+    pub fn copy(&self) -> Result<UnitChange, AllocError>
         ensures { IfOk result (λ copy. copy ≡ self.now) }
     {
         match self {
-            Change::Inserted(at, text) => Ok(Change::Inserted(*at, text.clone()?)),
-            Change::Deleted(at, text) => Ok(Change::Deleted(*at, text.clone()?)),
-            Change::Replaced(at, former, text) => {
-                Ok(Change::Replaced(*at, former.clone()?, text.clone()?))
+            UnitChange::Inserted(at, text) => Ok(UnitChange::Inserted(*at, text.clone()?)),
+            UnitChange::Deleted(at, text) => Ok(UnitChange::Deleted(*at, text.clone()?)),
+            UnitChange::Replaced(at, former, text) => {
+                Ok(UnitChange::Replaced(*at, former.clone()?, text.clone()?))
             }
         }
     }
 
     /// What takes the change back. It shares the bytes.
-    pub(crate) fn inverse(&self) -> Result<Change, AllocError>
+    pub(crate) fn inverse(&self) -> Result<UnitChange, AllocError>
         ensures { IfOk result (λ inverse. (old : Texts) (new : Texts)
             → Changes old self.now new → Changes new inverse old) }
     {
         match self {
-            Change::Inserted(at, text) => Ok(Change::Deleted(*at, text.clone()?)),
-            Change::Deleted(at, text) => Ok(Change::Inserted(*at, text.clone()?)),
-            Change::Replaced(at, former, text) => {
-                Ok(Change::Replaced(*at, text.clone()?, former.clone()?))
+            UnitChange::Inserted(at, text) => Ok(UnitChange::Deleted(*at, text.clone()?)),
+            UnitChange::Deleted(at, text) => Ok(UnitChange::Inserted(*at, text.clone()?)),
+            UnitChange::Replaced(at, former, text) => {
+                Ok(UnitChange::Replaced(*at, text.clone()?, former.clone()?))
             }
         }
     }

@@ -10,28 +10,28 @@ ghost use Rattle.stream_edits.specs.Edits.{Register};
 ghost use Rattle.picture_keys.specs.Units.{AreDifferent};
 ghost use Rattle.stream_edits.specs.Streams.{start_among};
 
-use crate::changes::Change;
+use crate::changes::UnitChange;
 use crate::refusals::NotUndone;
 use bytes::Bytes;
 use h264_types::pictures::AuId;
 use std::alloc::{AllocError, Global};
-use stream_edits::{Edit, Place};
+use stream_edits::{Edit, InsertionPoint};
 
 /// The ids of a stream beside the one that is kept, on which the edits of a group are made one after
 /// the other, and how many ids were given.
 #[derive(Debug, Drop)]
-pub(crate) struct Draft {
+pub(crate) struct TextDraft {
     pub(crate) ids: Vec<AuId>,
     pub(crate) ids_given: u32,
 }
 
-impl Draft {
+impl TextDraft {
     /// The ids as they are, before any edit.
-    pub(crate) fn new(alloc: Global, ids: &[AuId], ids_given: u32) -> Result<Draft, AllocError>
+    pub(crate) fn new(alloc: Global, ids: &[AuId], ids_given: u32) -> Result<TextDraft, AllocError>
         ensures ids { IfOk result (λ draft. draft.ids.items ≡ ids.now) }
         ensures given { IfOk result (λ draft. draft.ids_given ≡ ids_given) }
     {
-        Ok(Draft {
+        Ok(TextDraft {
             ids: ids.to_vec(alloc)?,
             ids_given,
         })
@@ -41,7 +41,7 @@ impl Draft {
     pub(crate) fn make_all(
         &mut self,
         alloc: Global,
-        changes: &[Change],
+        changes: &[UnitChange],
     ) -> Result<Vec<Edit>, NotUndone>
         ensures ok { IfOk result (λ edits. (old : Register) (before : Texts) (after : Texts)
             → IsStream old before self.old.ids.items self.old.ids_given
@@ -60,7 +60,7 @@ impl Draft {
     }
 
     /// The edit that makes the change, made on the draft.
-    pub(crate) fn make(&mut self, change: &Change) -> Result<Edit, NotUndone>
+    pub(crate) fn make(&mut self, change: &UnitChange) -> Result<Edit, NotUndone>
         ensures makes { IfOk result (λ edit. (old : Register) (before : Texts) (after : Texts)
             → IsStream old before self.old.ids.items self.old.ids_given
             → Changes before change.now after
@@ -71,9 +71,9 @@ impl Draft {
             → IsWithin (length self.old.ids.items) change.now → ⊥) }
     {
         match change {
-            Change::Inserted(at, text) => self.insert(*at, text),
-            Change::Deleted(at, _) => self.delete(*at),
-            Change::Replaced(at, _, text) => self.replace(*at, text),
+            UnitChange::Inserted(at, text) => self.insert(*at, text),
+            UnitChange::Deleted(at, _) => self.delete(*at),
+            UnitChange::Replaced(at, _, text) => self.replace(*at, text),
         }
     }
 
@@ -135,13 +135,13 @@ impl Draft {
 }
 
 /// The place before which so many units of these ids stand.
-fn place_at(ids: &[AuId], at: usize) -> Place
+fn place_at(ids: &[AuId], at: usize) -> InsertionPoint
     requires { at ≤ length ids.now }
     ensures { AreDifferent ids.now → start_among ids.now result ≡ Some at }
 {
     if at == 0 {
-        Place::First
+        InsertionPoint::First
     } else {
-        Place::After(ids[at - 1])
+        InsertionPoint::After(ids[at - 1])
     }
 }

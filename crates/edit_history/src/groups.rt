@@ -8,8 +8,8 @@ ghost use Rattle.edit_history.specs.Refusals.{IsRefusedFor};
 ghost use Rattle.edit_history.specs.Texts.{IsStream, Texts};
 ghost use Rattle.stream_edits.specs.Edits.{Register};
 
-use crate::changes::Change;
-use crate::draft::Draft;
+use crate::changes::UnitChange;
+use crate::draft::TextDraft;
 use crate::refusals::NotUndone;
 use h264_types::pictures::AuId;
 use std::alloc::{AllocError, Global};
@@ -21,7 +21,7 @@ pub struct StepGroup {
     /// The edits, to be made together.
     pub edits: Vec<Edit>,
     /// What they change, one after the other.
-    pub changes: Vec<Change>,
+    pub changes: Vec<UnitChange>,
     /// The ids of the units once they are made.
     pub ids: Vec<AuId>,
     /// How many ids are given then.
@@ -34,7 +34,7 @@ pub(crate) fn group_of(
     alloc: Global,
     ids: &[AuId],
     ids_given: u32,
-    changes: Vec<Change>,
+    changes: Vec<UnitChange>,
 ) -> Result<StepGroup, NotUndone>
     ensures ok { IfOk result (λ group. (old : Register) (before : Texts) (after : Texts)
         → IsStream old before ids.now ids_given → ChangesAll before changes.items after
@@ -45,9 +45,9 @@ pub(crate) fn group_of(
         → IsStream old before ids.now ids_given → ChangesAll before changes.items after
         → refused ≢ Unfit) }
 {
-    let mut draft = Draft::new(alloc, ids, ids_given)?;
+    let mut draft = TextDraft::new(alloc, ids, ids_given)?;
     let edits = draft.make_all(alloc, &changes)?;
-    let Draft { ids, ids_given } = draft;
+    let TextDraft { ids, ids_given } = draft;
     Ok(StepGroup {
         edits,
         changes,
@@ -57,7 +57,10 @@ pub(crate) fn group_of(
 }
 
 /// The changes once more. They share the bytes.
-pub(crate) fn copies_of(alloc: Global, changes: &[Change]) -> Result<Vec<Change>, AllocError>
+pub(crate) fn copies_of(
+    alloc: Global,
+    changes: &[UnitChange],
+) -> Result<Vec<UnitChange>, AllocError>
     ensures { IfOk result (λ copies. copies.items ≡ changes.now) }
 {
     let mut copies = Vec::with_capacity(alloc, changes.len())?;
@@ -68,7 +71,10 @@ pub(crate) fn copies_of(alloc: Global, changes: &[Change]) -> Result<Vec<Change>
 }
 
 /// What takes the changes back, the last first. It shares the bytes.
-pub(crate) fn inverse_of(alloc: Global, changes: &[Change]) -> Result<Vec<Change>, AllocError>
+pub(crate) fn inverse_of(
+    alloc: Global,
+    changes: &[UnitChange],
+) -> Result<Vec<UnitChange>, AllocError>
     ensures back { IfOk result (λ inverse. (old : Texts) (new : Texts)
         → ChangesAll old changes.now new → ChangesAll new inverse.items old) }
     ensures length { IfOk result (λ inverse. length inverse.items ≡ length changes.now) }

@@ -4,12 +4,12 @@ ghost use Rattle.std.specs.Prelude.{◌≡◌, ◌≢◌, ℕ, ◌+◌, ◌-◌,
 ghost use Rattle.edit_history.specs.Changes.{ChangesAll};
 ghost use Rattle.edit_history.specs.declared.refusals.NotUndone.TheVariants.{Unfit};
 ghost use Rattle.edit_history.specs.Groups.{TakesTo};
-ghost use Rattle.edit_history.specs.Histories.{HasRoom, IsHistory};
+ghost use Rattle.edit_history.specs.Histories.{HasCapacity, IsHistory};
 ghost use Rattle.edit_history.specs.Refusals.{IsNotUndone};
 ghost use Rattle.edit_history.specs.Texts.{IsStream, Texts};
 ghost use Rattle.stream_edits.specs.Edits.{Register};
 
-use crate::changes::Change;
+use crate::changes::UnitChange;
 use crate::groups::{StepGroup, copies_of, group_of, inverse_of};
 use crate::refusals::NotUndone;
 use h264_types::pictures::AuId;
@@ -17,14 +17,14 @@ use std::alloc::{AllocError, Global};
 
 /// What one edit, group or load changed.
 #[derive(Debug)]
-pub(crate) struct Step {
-    pub(crate) changes: Vec<Change>,
+pub(crate) struct HistoryStep {
+    pub(crate) changes: Vec<UnitChange>,
 }
 
 // By hand, so that whoever drops one is proved over one call.
-impl Drop for Step {
+impl Drop for HistoryStep {
     fn drop(self) {
-        let Step { changes: _ } = self;
+        let HistoryStep { changes: _ } = self;
     }
 }
 
@@ -32,7 +32,7 @@ impl Drop for Step {
 #[derive(Debug)]
 pub struct History {
     /// The steps that are done, and behind them those that can be redone, the next one first.
-    pub(crate) steps: Vec<Step>,
+    pub(crate) steps: Vec<HistoryStep>,
     /// How many are done.
     pub(crate) done: usize,
 }
@@ -72,7 +72,7 @@ impl History {
     /// Makes room for one step more, so that a change that is accepted can be taken in without
     /// memory. What can be undone and redone stays.
     pub fn reserve(&mut self) -> Result<(), AllocError>
-        ensures ok { OnOk result (HasRoom self.new) }
+        ensures ok { OnOk result (HasCapacity self.new) }
         ensures done { self.new.done ≡ self.old.done }
         ensures steps { self.new.steps.items ≡ self.old.steps.items }
     {
@@ -81,15 +81,15 @@ impl History {
 
     /// Takes in what an edit, a group or a load changed, in the order of its edits. What could be
     /// redone is forgotten. It takes no memory: `reserve` made the room.
-    pub fn changed(&mut self, changes: Vec<Change>)
-        requires room { HasRoom self.old }
+    pub fn changed(&mut self, changes: Vec<UnitChange>)
+        requires capacity { HasCapacity self.old }
         ensures fits { (states : List Texts) (before : Texts) (after : Texts)
             → IsHistory self.old states before → ChangesAll before changes.items after
             → IsHistory self.new (take (self.old.done + 1) states ++ after ∷ []) after }
         ensures done { self.new.done ≡ length self.new.steps.items }
     {
         self.steps.truncate(self.done);
-        self.steps.push_reserved(Step { changes });
+        self.steps.push_reserved(HistoryStep { changes });
         self.done = self.steps.len();
     }
 

@@ -1,6 +1,6 @@
 //! What can be undone and redone, as a value beside a stream of access units.
 //!
-//! A `History` is told what each accepted edit, group or load changed, as `Change`s: room is made
+//! A `History` is told what each accepted edit, group or load changed, as `UnitChange`s: room is made
 //! before the edit (`History::reserve`), so that one that is accepted is always taken in
 //! (`History::changed`). `History::undo` answers the group of edits that takes the last of them back,
 //! `History::redo` the group that makes it again. Once the group is made, `History::undone` or
@@ -19,7 +19,7 @@ mod history;
 mod refusals;
 pub mod undo_redo;
 
-pub use changes::Change;
+pub use changes::UnitChange;
 pub use groups::StepGroup;
 pub use history::History;
 pub use refusals::NotUndone;

@@ -1,11 +1,11 @@
 //! A history beside streams of two or three units that are changed by hand.
 
-use crate::{Change, History, NotUndone, StepGroup};
+use crate::{History, NotUndone, StepGroup, UnitChange};
 use bytes::Bytes;
 use h264_types::pictures::AuId;
 use std::alloc::{AllocError, Global};
 use std::test::Fail;
-use stream_edits::{Edit, Place};
+use stream_edits::{Edit, InsertionPoint};
 
 /// Texts: a history doesn't read them.
 static A: [u8; 1] = [1];
@@ -17,8 +17,8 @@ static C: [u8; 1] = [3];
 /// What an edit does, the id that it names (0 for the first place) and the first byte of its text.
 fn shown(edit: &Edit) -> (char, u32, u8) {
     match edit {
-        Edit::Insert(Place::First, text) => ('i', 0, first(text)),
-        Edit::Insert(Place::After(id), text) => ('i', id.number(), first(text)),
+        Edit::Insert(InsertionPoint::First, text) => ('i', 0, first(text)),
+        Edit::Insert(InsertionPoint::After(id), text) => ('i', id.number(), first(text)),
         Edit::Delete(id) => ('d', id.number(), 0),
         Edit::Replace(id, text) => ('r', id.number(), first(text)),
     }
@@ -43,20 +43,20 @@ fn are(group: &Result<StepGroup, NotUndone>, wanted: &[(char, u32, u8)]) -> bool
     }
 }
 
-fn inserted(at: usize, text: &'static [u8]) -> Change {
-    Change::Inserted(at, Bytes::from_static(text))
+fn inserted(at: usize, text: &'static [u8]) -> UnitChange {
+    UnitChange::Inserted(at, Bytes::from_static(text))
 }
 
-fn deleted(at: usize, text: &'static [u8]) -> Change {
-    Change::Deleted(at, Bytes::from_static(text))
+fn deleted(at: usize, text: &'static [u8]) -> UnitChange {
+    UnitChange::Deleted(at, Bytes::from_static(text))
 }
 
-fn replaced(at: usize, former: &'static [u8], text: &'static [u8]) -> Change {
-    Change::Replaced(at, Bytes::from_static(former), Bytes::from_static(text))
+fn replaced(at: usize, former: &'static [u8], text: &'static [u8]) -> UnitChange {
+    UnitChange::Replaced(at, Bytes::from_static(former), Bytes::from_static(text))
 }
 
 /// Takes in what an accepted edit or group changed.
-fn take_in(history: &mut History, changes: Vec<Change>) -> Result<(), AllocError> {
+fn take_in(history: &mut History, changes: Vec<UnitChange>) -> Result<(), AllocError> {
     history.reserve()?;
     history.changed(changes);
     Ok(())

@@ -16,6 +16,6 @@ mod undo_redo;
 mod unit_texts;
 
 pub use crate::NotUndone;
-pub use prepared::{PreparedEdit, PreparedGroup, Step};
+pub use prepared::{OpenStep, PreparedEdit, PreparedGroup};
 pub use undo_redo::UndoRedo;
 pub use unit_texts::UnitTexts;

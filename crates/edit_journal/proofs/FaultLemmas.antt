@@ -12,7 +12,7 @@ use Rattle.sqlite_trees.specs.declared.store.Shape.TheVariants.{Table}
 use Rattle.sqlite_trees.specs.declared.store.Store.{Ghosts}
 use Rattle.edit_journal.specs.declared.fault.JournalFault.{JournalFault}
 use Rattle.edit_journal.specs.declared.fault.JournalFault.TheVariants.{NotAJournal, Locked, Damaged, Full, Failed, Shut, TooLarge, Memory}
-use Rattle.edit_journal.specs.declared.line.Step.{Step}
+use Rattle.edit_journal.specs.declared.line.RowStep.{RowStep}
 use Rattle.edit_journal.specs.Faults.{HasReason, TellsFault, fault_of}
 use Rattle.edit_journal.specs.Journals.{Fails, Fits}
 use Rattle.edit_journal.specs.Lines.{edit_tree, row_of, rows_from, lines_from, lines_of}
@@ -84,16 +84,16 @@ module _ {S : Type 0} (g : Ghosts S) where
     told = subst (λ (b : Option StoreError). TellsFault b f) (sym blame) fails.told;
   }
 
-row_behind : (P : Row → Type 0) (number entry place : ℕ) (front : List Step) (step : Step) (rest : List Step) (at n : ℕ) → at ≡ place + length front → n ≡ number + length front
+row_behind : (P : Row → Type 0) (number entry place : ℕ) (front : List RowStep) (step : RowStep) (rest : List RowStep) (at n : ℕ) → at ≡ place + length front → n ≡ number + length front
     → AllByRecursion P (rows_from number (lines_from entry place (front ++ step ∷ rest))) → P (row_of n (record { entry = entry; place = at; step = step }))
 row_behind P number entry place [] step rest at n is_at is_n all = let a : at ≡ place = omega (arith, is_at) in let b : n ≡ number = omega (arith, is_n) in rw (a, b) all.0
 row_behind P number entry place (first ∷ front) step rest at n is_at is_n all = row_behind P (number + 1) entry (place + 1) front step rest at n (omega (arith, is_at)) (omega (arith, is_n)) all.1
 
 -- each row of a record that fits can be stored
-pub row_fits : (reals rows entry : ℕ) (steps : List Step) (i : ℕ) (step : Step) (place number : ℕ) → i < length steps → step ≡ get_or steps i step → place ≡ i → number ≡ rows + (i + 1) → Fits reals rows entry steps
+pub row_fits : (reals rows entry : ℕ) (steps : List RowStep) (i : ℕ) (step : RowStep) (place number : ℕ) → i < length steps → step ≡ get_or steps i step → place ≡ i → number ≡ rows + (i + 1) → Fits reals rows entry steps
     → IsStorableRow reals (row_of number (record { entry = entry; place = place; step = step }))
 row_fits reals rows entry steps i step place number less is is_place is_number fits =
-    let whole : take i steps ++ step ∷ drop (suc i) steps ≡ steps = sym (set_split steps i step less) ∙ ap (λ (x : Step). set steps i x) is ∙ set-get_or steps i step in
+    let whole : take i steps ++ step ∷ drop (suc i) steps ≡ steps = sym (set_split steps i step less) ∙ ap (λ (x : RowStep). set steps i x) is ∙ set-get_or steps i step in
     let long : length (take i steps) ≡ i = length-take-le i steps (omega (arith, less)) in
     row_behind (IsStorableRow reals) (rows + 1) entry 0 (take i steps) step (drop (suc i) steps) place number (omega (arith, long, is_place)) (omega (arith, long, is_number))
-    (subst (λ (all : List Step). AllByRecursion (IsStorableRow reals) (rows_from (rows + 1) (lines_of entry all))) (sym whole) fits.storable)
+    (subst (λ (all : List RowStep). AllByRecursion (IsStorableRow reals) (rows_from (rows + 1) (lines_of entry all))) (sym whole) fits.storable)

@@ -10,7 +10,7 @@ use Rattle.sqlite_value.proofs.OrderLemmas.{value_cmp-Int}
 use Rattle.sqlite_value.specs.declared.keys.Order.{Order}
 use Rattle.sqlite_trees.specs.Tree.{put_row, without_rowid, from_key}
 use Rattle.edit_journal.specs.declared.line.Line.{Line}
-use Rattle.edit_journal.specs.declared.line.Step.{Step}
+use Rattle.edit_journal.specs.declared.line.RowStep.{RowStep}
 use Rattle.edit_journal.specs.declared.line.Kind.{Kind}
 use Rattle.edit_journal.specs.declared.line.Kind.TheVariants.{InsertFirst, Insert, Delete, Replace, Unit as UnitKind, Given, Load}
 use Rattle.edit_journal.specs.Lines.{row_of, rows_from, lines_from, lines_of, name_of}
@@ -72,23 +72,23 @@ rows_then number [] line more at is = let first : at ≡ number = omega (arith, 
 rows_then number (first ∷ lines) line more at is = ap (λ rows. row_of number first ∷ rows) (rows_then (number + 1) lines line more at (omega arith))
 
 -- one line more
-pub lines_then : (entry place : ℕ) (steps : List Step) (step : Step) (at : ℕ) → at ≡ place + length steps
+pub lines_then : (entry place : ℕ) (steps : List RowStep) (step : RowStep) (at : ℕ) → at ≡ place + length steps
     → lines_from entry place (steps ++ step ∷ []) ≡ lines_from entry place steps ++ (record { entry = entry; place = at; step = step }) ∷ []
 lines_then entry place [] step at is = let first : at ≡ place = omega (arith, is) in rw first refl
 lines_then entry place (first ∷ steps) step at is = ap (λ lines. (record { entry = entry; place = place; step = first }) ∷ lines) (lines_then entry (place + 1) steps step at (omega arith))
 
 -- as many lines as steps
-pub length-lines_from : (entry place : ℕ) (steps : List Step) → length (lines_from entry place steps) ≡ length steps
+pub length-lines_from : (entry place : ℕ) (steps : List RowStep) → length (lines_from entry place steps) ≡ length steps
 length-lines_from entry place [] = refl
 length-lines_from entry place (step ∷ steps) = omega (arith, length-lines_from entry (place + 1) steps)
 
-take-lines_from : (n entry place : ℕ) (steps : List Step) → take n (lines_from entry place steps) ≡ lines_from entry place (take n steps)
+take-lines_from : (n entry place : ℕ) (steps : List RowStep) → take n (lines_from entry place steps) ≡ lines_from entry place (take n steps)
 take-lines_from zero entry place steps = refl
 take-lines_from (suc n) entry place [] = refl
 take-lines_from (suc n) entry place (step ∷ steps) = ap (λ lines. (record { entry = entry; place = place; step = step }) ∷ lines) (take-lines_from n entry (place + 1) steps)
 
 -- of the lines whose last record has so many steps, its first ones are left
-pub take_record : (lines : List Line) (entry : ℕ) (steps : List Step) (rows left count kept : ℕ) → rows ≡ length (lines ++ lines_of entry steps) → count ≡ length steps → left + (count - kept) ≡ rows
+pub take_record : (lines : List Line) (entry : ℕ) (steps : List RowStep) (rows left count kept : ℕ) → rows ≡ length (lines ++ lines_of entry steps) → count ≡ length steps → left + (count - kept) ≡ rows
     → take left (lines ++ lines_of entry steps) ++ [] ≡ lines ++ lines_of entry (take kept steps)
 take_record lines entry steps rows left count kept all long is =
     let at : left ≡ length lines + min kept (length steps) = omega (arith, length-append lines (lines_of entry steps), length-lines_from entry 0 steps) in

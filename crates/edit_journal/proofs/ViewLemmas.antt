@@ -7,7 +7,7 @@ use Rattle.sqlite_trees.specs.declared.store.Direction.TheVariants.{Forward}
 use Rattle.sqlite_trees.specs.View.{View, IsQuiet, OnlyWrites, SetsTree, with_cursor}
 use Rattle.sqlite_trees.specs.declared.store.Store.{Ghosts}
 use Rattle.edit_journal.specs.declared.line.Line.{Line}
-use Rattle.edit_journal.specs.declared.line.Step.{Step}
+use Rattle.edit_journal.specs.declared.line.RowStep.{RowStep}
 use Rattle.edit_journal.specs.Lines.{Keeps, row_of, rows_from, lines_of, edit_tree}
 use Rattle.edit_journal.specs.Journals.{Takes, OnlySeeks, PutsRow, KeepsCommit, edit_cursor}
 use Rattle.edit_journal.proofs.RowLemmas.{put_last, without_next, rows_split, rows_then, lines_then, length-lines_from, from_no_key}
@@ -104,14 +104,14 @@ on_err (Ok x) P p = tt
 on_err (Err e) P p = p
 
 -- the rows of these steps stand behind those that were there
-pub record Puts (old now : View) (rows entry : ℕ) (steps : List Step) : Type 0 where
+pub record Puts (old now : View) (rows entry : ℕ) (steps : List RowStep) : Type 0 where
   pub writes : OnlyWrites old now
   pub keeps : (lines : List Line) → Keeps old.trees lines → rows ≡ length lines → Keeps now.trees (lines ++ lines_of entry steps)
 
 pub puts_nothing : (v : View) (rows entry : ℕ) → Puts v v rows entry []
 puts_nothing v rows entry = record { writes = refl; keeps = λ lines keeps _. keeps ∙ ap (rows_from 1) (sym (append-nil lines)) }
 
-pub puts_more : (old now new : View) (rows entry : ℕ) (steps : List Step) (step : Step) (number place : ℕ) → place ≡ length steps → number ≡ rows + length steps + 1 → Puts old now rows entry steps
+pub puts_more : (old now new : View) (rows entry : ℕ) (steps : List RowStep) (step : RowStep) (number place : ℕ) → place ≡ length steps → number ≡ rows + length steps + 1 → Puts old now rows entry steps
     → PutsRow now new (row_of number (record { entry = entry; place = place; step = step })) → Puts old new rows entry (steps ++ step ∷ [])
 puts_more old now new rows entry steps step number place at_place at puts row =
     let line : Line = record { entry = entry; place = place; step = step } in

@@ -8,7 +8,7 @@ use Rattle.sqlite_trees.specs.View.{View, doubt, IsClean, IsStorableRow, SetsTre
 use Rattle.sqlite_trees.specs.declared.store.Store.{Ghosts}
 use Rattle.edit_journal.specs.declared.fault.JournalFault.{JournalFault}
 use Rattle.edit_journal.specs.declared.line.Line.{Line}
-use Rattle.edit_journal.specs.declared.line.Step.{Step}
+use Rattle.edit_journal.specs.declared.line.RowStep.{RowStep}
 use Rattle.edit_journal.specs.Faults.{HasReason, TellsFault}
 use Rattle.edit_journal.specs.Lines.{Keeps, row_of, rows_from, lines_of, edit_tree}
 
@@ -51,7 +51,7 @@ pub record Lasts {S : Type 0} (g : Ghosts S) (s : S) (rows : ℕ) (lines : List 
   pub leaves : (db : Trees) → g.recovers s db → Keeps db lines
 
 -- the record and its rows, behind so many rows, have numbers, and each row can be stored
-pub record Fits (reals rows entry : ℕ) (steps : List Step) : Type 0 where
+pub record Fits (reals rows entry : ℕ) (steps : List RowStep) : Type 0 where
   pub counted : entry < 2 ^ 32
   pub numbered : rows + length steps < 2 ^ 32
   pub storable : AllByRecursion (IsStorableRow reals) (rows_from (rows + 1) (lines_of entry steps))

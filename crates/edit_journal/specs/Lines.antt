@@ -5,7 +5,7 @@ use Rattle.sqlite_value.specs.Order.{Row}
 use Rattle.sqlite_trees.specs.Tree.{Trees}
 use Rattle.edit_journal.specs.declared.line.Kind.{Kind}
 use Rattle.edit_journal.specs.declared.line.Kind.TheVariants.{InsertFirst, Insert, Delete, Replace, Unit as UnitKind, Given, Load}
-use Rattle.edit_journal.specs.declared.line.Step.{Step}
+use Rattle.edit_journal.specs.declared.line.RowStep.{RowStep}
 use Rattle.edit_journal.specs.declared.line.Line.{Line}
 
 -- the word of a row for what its step does
@@ -29,12 +29,12 @@ rows_from number [] = []
 rows_from number (line ∷ lines) = row_of number line ∷ rows_from (number + 1) lines
 
 -- the lines of a record under this number, from this place on
-abbrev pub lines_from : ℕ → ℕ → List Step → List Line
+abbrev pub lines_from : ℕ → ℕ → List RowStep → List Line
 lines_from entry place [] = []
 lines_from entry place (step ∷ steps) = record { entry = entry; place = place; step = step } ∷ lines_from entry (place + 1) steps
 
 -- the lines of a record
-abbrev pub lines_of : ℕ → List Step → List Line
+abbrev pub lines_of : ℕ → List RowStep → List Line
 lines_of entry steps = lines_from entry 0 steps
 
 -- the number of the table

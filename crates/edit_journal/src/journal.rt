@@ -3,13 +3,13 @@
 ghost use Rattle.std.specs.Prelude.{◌≡◌, ℕ, ◌+◌, ◌-◌, ◌<◌, ◌≤◌, ◌++◌, List, length, take, min, IfErr, IfOk, IsTrue, OnErr, OnOk};
 ghost use Rattle.sqlite_trees.specs.View.{IsClean, doubt};
 ghost use Rattle.edit_journal.specs.declared.line.Line.{Line as LineValue};
-ghost use Rattle.edit_journal.specs.declared.line.Step.{Step as StepValue};
+ghost use Rattle.edit_journal.specs.declared.line.RowStep.{RowStep as StepValue};
 ghost use Rattle.edit_journal.specs.Journals.{Fails, Fits, Lasts, Shows, Stands, Survives};
 ghost use Rattle.edit_journal.specs.Lines.{Keeps, edit_tree, lines_of};
 ghost use Rattle.edit_journal.specs.Tables.{IsJournal};
 
 use crate::fault::JournalFault;
-use crate::line::{Line, Step};
+use crate::line::{Line, RowStep};
 use crate::reading::read_lines;
 use crate::table::find_table;
 use crate::writing::{commit_record, replace_records};
@@ -17,7 +17,7 @@ use sqlite_trees::store::Alter;
 use std::alloc::Global;
 
 /// How many records the steps are: a record without steps is none.
-fn records_in(steps: &[Step]) -> u32
+fn records_in(steps: &[RowStep]) -> u32
     ensures { result ≡ min 1 (length steps.now) }
 {
     u32::from(!steps.is_empty())
@@ -68,7 +68,7 @@ impl<S: Alter> Journal<S> {
     }
 
     /// Adds a record of these steps behind those that are there. On an error nothing of it stands.
-    pub fn append(&mut self, steps: &[Step]) -> Result<(), JournalFault>
+    pub fn append(&mut self, steps: &[RowStep]) -> Result<(), JournalFault>
         ensures added { IsClean (S.Store.view self.new.store) → OnOk result ((lines : List LineValue)
             → Stands (S.Store.view self.old.store) self.old.rows lines
             → Lasts S.Store self.new.store self.new.rows (lines ++ lines_of (self.old.entries + 1) steps.now)) }
@@ -101,7 +101,7 @@ impl<S: Alter> Journal<S> {
 
     /// Puts one record of these steps in the place of all that are there, or none where there are no steps. On an error
     /// those that are there stand.
-    pub fn rewrite(&mut self, steps: &[Step]) -> Result<(), JournalFault>
+    pub fn rewrite(&mut self, steps: &[RowStep]) -> Result<(), JournalFault>
         ensures replaced { IsClean (S.Store.view self.new.store) → OnOk result ((lines : List LineValue)
             → Stands (S.Store.view self.old.store) self.old.rows lines
             → Lasts S.Store self.new.store self.new.rows (lines_of 1 steps.now)) }

@@ -19,6 +19,6 @@ mod writing;
 
 pub use fault::JournalFault;
 pub use journal::Journal;
-pub use line::{Kind, Line, Step};
+pub use line::{Kind, Line, RowStep};
 pub use opening::{FileJournal, open};
 pub use sqlite_disk::{Start, Wary};

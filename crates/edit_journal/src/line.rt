@@ -60,7 +60,7 @@ impl Kind {
 
 /// One edit of those that are recorded together. What a kind has no use for is 0, or empty.
 #[derive(Debug, Drop)]
-pub struct Step {
+pub struct RowStep {
     /// What it does.
     pub kind: Kind,
     /// The number of the id that it is about.
@@ -79,5 +79,5 @@ pub struct Line {
     /// How many steps of the record stand before it.
     pub place: u32,
     /// What it keeps.
-    pub step: Step,
+    pub step: RowStep,
 }

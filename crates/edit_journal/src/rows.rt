@@ -6,7 +6,7 @@ ghost use Rattle.sqlite_value.specs.Order.{column};
 ghost use Rattle.sqlite_value.specs.Value.{owned};
 ghost use Rattle.edit_journal.specs.Lines.{row_of};
 
-use crate::line::{Kind, Line, Step};
+use crate::line::{Kind, Line, RowStep};
 use bytes::Bytes;
 use sqlite_value::row::Row;
 use sqlite_value::value::ValueRef;
@@ -21,7 +21,7 @@ pub(crate) fn write_row(
     number: u32,
     entry: u32,
     place: u32,
-    step: &Step,
+    step: &RowStep,
 ) -> Result<(), AllocError>
     ensures { OnOk result (row.new ≡ row_of number (record { entry = entry; place = place; step = step.now })) }
 {
@@ -87,7 +87,7 @@ pub(crate) fn line_of(alloc: Global, row: &Row, number: u32) -> Result<Option<Li
     if row.len() != COLUMNS {
         return Ok(None);
     }
-    let step = Step {
+    let step = RowStep {
         kind,
         id: numbers.id,
         named: numbers.named,

@@ -7,7 +7,7 @@ ghost use Rattle.edit_journal.specs.Lines.{Keeps, edit_tree, lines_of, row_of};
 ghost use Rattle.edit_journal.specs.Journals.{Fails, Fits, KeepsCommit, Lasts, PutsRow, Shows, Survives};
 
 use crate::fault::JournalFault;
-use crate::line::Step;
+use crate::line::RowStep;
 use crate::rows::write_row;
 use crate::table::EDITS;
 use sqlite_trees::store::{Alter, Shape};
@@ -21,7 +21,7 @@ fn put_step<S: Alter>(
     number: u32,
     entry: u32,
     place: u32,
-    step: &Step,
+    step: &RowStep,
 ) -> Result<(), JournalFault>
     requires { IsClean (S.Store.view store.old) → (S.Store.view store.old).shape edit_tree ≡ Shape.Table }
     ensures puts { OnOk result (IsClean (S.Store.view store.new) → PutsRow (S.Store.view store.old) (S.Store.view store.new)
@@ -43,7 +43,7 @@ fn put_steps<S: Alter>(
     store: &mut S,
     rows: u32,
     entry: u32,
-    steps: &[Step],
+    steps: &[RowStep],
 ) -> Result<u32, JournalFault>
     requires { IsClean (S.Store.view store.old) → (S.Store.view store.old).shape edit_tree ≡ Shape.Table }
     ensures puts { IsClean (S.Store.view store.new) → OnOk result ((lines : List Line) → Keeps (S.Store.view store.old).trees lines
@@ -91,7 +91,7 @@ pub(crate) fn commit_record<S: Alter>(
     store: &mut S,
     rows: u32,
     entry: u32,
-    steps: &[Step],
+    steps: &[RowStep],
 ) -> Result<u32, JournalFault>
     ensures adds { IsClean (S.Store.view store.new) → IfOk result (λ after. (lines : List Line)
         → Shows (S.Store.view store.old) rows lines → Lasts S.Store store.new after (lines ++ lines_of entry steps.now)) }
@@ -118,7 +118,7 @@ pub(crate) fn replace_records<S: Alter>(
     rows: u32,
     left: u32,
     entry: u32,
-    steps: &[Step],
+    steps: &[RowStep],
 ) -> Result<u32, JournalFault>
     ensures replaces { IsClean (S.Store.view store.new) → IfOk result (λ after. (lines : List Line) → left ≤ rows
         → Shows (S.Store.view store.old) rows lines → Lasts S.Store store.new after (take left lines ++ lines_of entry steps.now)) }

@@ -4,8 +4,8 @@ use Rattle.std.specs.Global.{Vec}
 use Rattle.std.specs.Str.{bytes_eq}
 use Rattle.stream_edits.specs.declared.edits.Edit.{Edit}
 use Rattle.stream_edits.specs.declared.edits.Edit.TheVariants.{Insert, Delete, Replace}
-use Rattle.stream_edits.specs.declared.edits.Place.{Place}
-use Rattle.stream_edits.specs.declared.edits.Place.TheVariants.{First, After}
+use Rattle.stream_edits.specs.declared.edits.InsertionPoint.{InsertionPoint}
+use Rattle.stream_edits.specs.declared.edits.InsertionPoint.TheVariants.{First, After}
 use Rattle.edit_script.specs.declared.commands.Command.{Command}
 use Rattle.edit_script.specs.declared.commands.Command.TheVariants as command
 use Rattle.edit_script.specs.declared.commands.LineFault.{LineFault}
@@ -22,7 +22,7 @@ deletion_of (id ∷ []) = option_map Delete (id_of_word id)
 deletion_of words = None
 
 -- the insertion of a text at a place, where both are there
-abbrev pub insert_at : Option Place → Option (List ℕ) → Option Edit
+abbrev pub insert_at : Option InsertionPoint → Option (List ℕ) → Option Edit
 insert_at (Some place) (Some text) = Some (Insert place text)
 insert_at (Some place) None = None
 insert_at None text = None

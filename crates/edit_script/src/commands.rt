@@ -11,7 +11,7 @@ use bytes::Bytes;
 use h264_types::pictures::AuId;
 use hex::FromHexError;
 use std::alloc::{AllocError, AllocFailed, Global};
-use stream_edits::{Edit, Place};
+use stream_edits::{Edit, InsertionPoint};
 
 /// What a line of a script asks for, or the lines of a group.
 #[derive(Debug, Drop)]
@@ -213,10 +213,10 @@ fn read_insertion(alloc: Global, words: &[&str]) -> Result<Edit, LineFault>
 {
     match words {
         [place, text @ ..] if *place == "first" => {
-            Ok(Edit::Insert(Place::First, read_hex(alloc, text)?))
+            Ok(Edit::Insert(InsertionPoint::First, read_hex(alloc, text)?))
         }
         [place, id, text @ ..] if *place == "after" => {
-            let place = Place::After(read_id(id)?);
+            let place = InsertionPoint::After(read_id(id)?);
             Ok(Edit::Insert(place, read_hex(alloc, text)?))
         }
         _ => Err(LineFault::Wrong),

@@ -12,10 +12,7 @@
 
 mod commands;
 mod edit_commands;
-mod edit_only_script;
 mod groups;
-mod kinds;
-mod laws;
 mod lines;
 mod reading;
 mod script;
@@ -23,9 +20,8 @@ mod seat_commands;
 mod session_commands;
 
 pub use commands::{Command, id_of_number};
-pub use edit_commands::EditCommand;
-pub use edit_only_script::read_edit_script;
-pub use laws::one_reading;
+pub use edit_commands::{EditCommand, read_edit_script};
+pub use reading::one_reading;
 pub use script::ScriptFault;
 pub use seat_commands::{SeatCommand, read_seat_script};
 pub use session_commands::{SessionCommand, read_session_script};

@@ -4,7 +4,7 @@ ghost use Rattle.edit_script.specs.Kinds.{IsReadAs};
 ghost use Rattle.edit_script.specs.SeatScripts.{of_seat};
 
 use crate::commands::Command;
-use crate::kinds::{Kind, read_kind};
+use crate::reading::{FromCommand, read_kind};
 use crate::script::ScriptFault;
 use h264_types::pictures::AuId;
 use std::alloc::Global;
@@ -36,7 +36,7 @@ pub enum SeatCommand<'a> {
     Rest(bool),
 }
 
-impl<'a> Kind<'a> for SeatCommand<'a> {
+impl<'a> FromCommand<'a> for SeatCommand<'a> {
     ghost as_command = { of_seat };
 
     fn of_command(command: Command<'a>) -> Option<SeatCommand<'a>> {

@@ -4,7 +4,7 @@ ghost use Rattle.edit_script.specs.Kinds.{IsReadAs};
 ghost use Rattle.edit_script.specs.SessionScripts.{of_session};
 
 use crate::commands::Command;
-use crate::kinds::{Kind, read_kind};
+use crate::reading::{FromCommand, read_kind};
 use crate::script::ScriptFault;
 use std::alloc::Global;
 use stream_edits::Edit;
@@ -46,7 +46,7 @@ pub enum SessionCommand<'a> {
     Altered { number: u64 },
 }
 
-impl<'a> Kind<'a> for SessionCommand<'a> {
+impl<'a> FromCommand<'a> for SessionCommand<'a> {
     ghost as_command = { of_session };
 
     fn of_command(command: Command<'a>) -> Option<SessionCommand<'a>> {

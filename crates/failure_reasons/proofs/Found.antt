@@ -1,8 +1,8 @@
 -- What is found of a text whose first bytes were read before the rest.
 use Rattle.std.proofs.Common.{◌≡◌, ◌∙◌, ℕ, List, ◌++◌, Option, Some, None, IfSome, sym, subst}
 use Rattle.std.specs.Fmt.{option_append}
-use Rattle.access_unit.specs.Rooms.{IsStream, IsStreamRefused, most_units}
-use Rattle.access_unit.specs.declared.room.Refusal.{Refusal}
+use Rattle.access_unit.specs.StreamUnits.{IsStream, IsStreamRefused, most_units}
+use Rattle.access_unit.specs.declared.stream_units.Refusal.{Refusal}
 use Rattle.stream_reasons.specs.Kinds.{kind_of}
 use Rattle.stream_reasons.specs.declared.file_kinds.kind.FileKind.{FileKind}
 use Rattle.failure_reasons.specs.Files.{IsReasonFor}

@@ -1,8 +1,8 @@
 -- Why a file isn't read as a stream, in words.
 use Rattle.std.specs.Prelude.{◌≡◌, ◌++◌, ℕ, List, codes, decimal, Option, None, Some}
-use Rattle.access_unit.specs.Rooms.{IsStream, IsStreamRefused, most_units}
-use Rattle.access_unit.specs.declared.room.Refusal.{Refusal}
-use Rattle.access_unit.specs.declared.room.Refusal.TheVariants as refusal
+use Rattle.access_unit.specs.StreamUnits.{IsStream, IsStreamRefused, most_units}
+use Rattle.access_unit.specs.declared.stream_units.Refusal.{Refusal}
+use Rattle.access_unit.specs.declared.stream_units.Refusal.TheVariants as refusal
 use Rattle.access_unit.specs.declared.refused.Refused.TheVariants.{Split}
 use Rattle.stream_reasons.specs.Kinds.{kind_of}
 use Rattle.stream_reasons.specs.Texts.{sentence_of}

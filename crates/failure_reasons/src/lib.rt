@@ -9,7 +9,6 @@
 //! edit_script; above are serve_run and cli.
 #![tactic(auto)]
 
-mod again;
 mod explain;
 pub mod file_reasons;
 mod loads;
@@ -21,8 +20,7 @@ mod unread;
 mod watched;
 
 pub use crate::script_reasons::ScriptKind;
-pub use again::Again;
-pub use explain::Explain;
+pub use explain::{Again, Explain};
 pub use scripts::{edited_lines, script_lines};
 pub use streams::stream_lines;
 pub use watched::Watched;

@@ -7,7 +7,7 @@ ghost use Rattle.failure_reasons.specs.FailureReasonsLines.{AreFileLines, MayHav
 ghost use Rattle.failure_reasons.specs.Loads.{AreLoadLines, AreScriptLines, AreTextLines};
 ghost use Rattle.failure_reasons.specs.declared.script_reasons.explaining.ScriptKind.TheVariants.{Edits};
 
-use crate::again::Again;
+use crate::explain::Again;
 use crate::loads::loads;
 use crate::noted::Noted;
 use crate::script_reasons::{ScriptKind, explain_script};

@@ -4,7 +4,7 @@ ghost use Rattle.std.specs.Prelude.{◌≡◌, ◌⊎◌, [], codes, true, IfOk}
 ghost use Rattle.std.specs.Str.{bytes_eq};
 ghost use Rattle.failure_reasons.specs.FailureReasonsLines.{IsRefusedLine, IsSaidOf, MayHaveFile};
 
-use crate::again::Again;
+use crate::explain::Again;
 use crate::file_reasons::explain_file;
 use crate::noted::Noted;
 use crate::unread::unread_file_line;

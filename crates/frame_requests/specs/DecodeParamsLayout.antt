@@ -2,11 +2,11 @@
 use Rattle.std.specs.Prelude.{ℕ, List}
 use Rattle.h264_controls.specs.declared.v4l2_ctrl_h264_decode_params.V4l2CtrlH264DecodeParams.{V4l2CtrlH264DecodeParams}
 use Rattle.h264_controls.specs.DecodeParamsForm.{decode_flags}
-use Rattle.frame_requests.specs.declared.layouts.decode_params.DecodeParams.{DecodeParams}
+use Rattle.frame_requests.specs.declared.layouts.decode_params.DecodeParamsLayout.{DecodeParamsLayout}
 use Rattle.frame_requests.specs.DpbLayout.{dpb_layout}
 
 -- each member is that of its name, as a number; the frames were decoded from these units
-abbrev pub decode_params_layout : List ℕ → V4l2CtrlH264DecodeParams → DecodeParams
+abbrev pub decode_params_layout : List ℕ → V4l2CtrlH264DecodeParams → DecodeParamsLayout
 decode_params_layout units control = record {
   dpb = dpb_layout control.dpb units;
   nal_ref_idc = control.nal_ref_idc;

@@ -4,10 +4,10 @@ use Rattle.std.specs.List.{range_with_len}
 use Rattle.h264_controls.specs.declared.v4l2_ctrl_h264_decode_params.V4l2H264DpbEntry.{V4l2H264DpbEntry}
 use Rattle.h264_controls.specs.DecodeParamsForm.{dpb_entry_flags, field_reference_number}
 use Rattle.h264_controls.specs.References.{timestamp}
-use Rattle.frame_requests.specs.declared.layouts.dpb_entry.DpbEntry.{DpbEntry}
+use Rattle.frame_requests.specs.declared.layouts.dpb_entry.DpbEntryLayout.{DpbEntryLayout}
 
 -- an entry that holds a frame: each member is that of its name, as a number
-abbrev pub dpb_entry_layout : ℕ → V4l2H264DpbEntry → DpbEntry
+abbrev pub dpb_entry_layout : ℕ → V4l2H264DpbEntry → DpbEntryLayout
 dpb_entry_layout ts entry = record {
   reference_ts = ts;
   pic_num = entry.pic_num;
@@ -20,7 +20,7 @@ dpb_entry_layout ts entry = record {
 }
 
 -- an entry that holds none
-abbrev pub no_entry : DpbEntry
+abbrev pub no_entry : DpbEntryLayout
 no_entry = record {
   reference_ts = 0;
   pic_num = 0;
@@ -41,14 +41,14 @@ reference_ts_of None = 0
 abbrev pub reference_ts_at : List ℕ → ℕ → ℕ
 reference_ts_at units place = reference_ts_of (slice_get units place)
 
-abbrev pub entry_or_none : ℕ → Option V4l2H264DpbEntry → DpbEntry
+abbrev pub entry_or_none : ℕ → Option V4l2H264DpbEntry → DpbEntryLayout
 entry_or_none ts (Some entry) = dpb_entry_layout ts entry
 entry_or_none ts None = no_entry
 
 -- the entry at a place, with the timestamp of the unit there
-abbrev pub dpb_entry_at : List V4l2H264DpbEntry → List ℕ → ℕ → DpbEntry
+abbrev pub dpb_entry_at : List V4l2H264DpbEntry → List ℕ → ℕ → DpbEntryLayout
 dpb_entry_at entries units place = entry_or_none (reference_ts_at units place) (slice_get entries place)
 
 -- sixteen entries, of which those that hold no frame are zeros
-abbrev pub dpb_layout : List V4l2H264DpbEntry → List ℕ → List DpbEntry
+abbrev pub dpb_layout : List V4l2H264DpbEntry → List ℕ → List DpbEntryLayout
 dpb_layout entries units = map (dpb_entry_at entries units) (range_with_len 0 16)

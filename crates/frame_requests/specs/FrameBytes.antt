@@ -8,7 +8,7 @@ use Rattle.frame_requests.specs.declared.joining.StartCode.TheVariants.{Without,
 
 -- the bytes of a slice: its NAL unit after a start code
 abbrev pub bytes_of : Request → List ℕ
-bytes_of slice = slice.work.bytes
+bytes_of slice = slice.body.bytes
 
 -- those of the slices, one after the other; without start codes the NAL unit of the only slice
 abbrev pub frame_bytes : StartCode → List Request → Option (List ℕ)

@@ -1,20 +1,20 @@
 -- The controls of a picture's frame request (linux/v4l2-controls.h).
 use Rattle.frame_requests.specs.declared.request.FrameRequest.{FrameRequest}
 use Rattle.frame_requests.specs.FrameFlags.{frame_flags_number}
-use Rattle.frame_requests.specs.declared.layouts.decode_params.DecodeParams.{DecodeParams}
-use Rattle.frame_requests.specs.declared.layouts.frame_controls.FrameControls.{FrameControls}
+use Rattle.frame_requests.specs.declared.layouts.decode_params.DecodeParamsLayout.{DecodeParamsLayout}
+use Rattle.frame_requests.specs.declared.layouts.frame_controls.FrameControlsLayout.{FrameControlsLayout}
 use Rattle.frame_requests.specs.SpsLayout.{sps_layout}
 use Rattle.frame_requests.specs.PpsLayout.{pps_layout}
 use Rattle.frame_requests.specs.ScalingMatrixLayout.{scaling_matrix_layout}
 use Rattle.frame_requests.specs.DecodeParamsLayout.{decode_params_layout}
 
 -- the decode parameters of the first slice, with the picture's flags
-abbrev pub frame_decode_params : FrameRequest → DecodeParams
+abbrev pub frame_decode_params : FrameRequest → DecodeParamsLayout
 frame_decode_params frame =
     record (decode_params_layout frame.references frame.decode_params) { flags = frame_flags_number frame.flags }
 
 -- the kernel's structs of the four controls
-abbrev pub frame_controls_layout : FrameRequest → FrameControls
+abbrev pub frame_controls_layout : FrameRequest → FrameControlsLayout
 frame_controls_layout frame = record {
   sps = sps_layout frame.sets.sps;
   pps = pps_layout frame.sets.pps;

@@ -17,16 +17,16 @@ is_b_type _ = false
 
 -- whether the slice of a request is a P slice
 abbrev pub is_p : Request → Bool
-is_p slice = is_p_type slice.work.controls.slice_params.slice_type
+is_p slice = is_p_type slice.body.controls.slice_params.slice_type
 
 -- whether it is a B slice
 abbrev pub is_b : Request → Bool
-is_b slice = is_b_type slice.work.controls.slice_params.slice_type
+is_b slice = is_b_type slice.body.controls.slice_params.slice_type
 
 -- BFRAME where a slice is B, PFRAME where a slice is P and none is B; IDR_PIC is the first slice's
 abbrev pub frame_flags : List Request → Request → FrameFlags
 frame_flags slices first = record {
-  idr_pic = first.work.controls.decode_params.flags.idr_pic;
+  idr_pic = first.body.controls.decode_params.flags.idr_pic;
   pframe = list_any is_p slices && not (list_any is_b slices);
   bframe = list_any is_b slices;
 }

@@ -9,8 +9,8 @@ abbrev pub frame_of : List Request → Request → FrameRequest
 frame_of slices first = record {
   timestamp = first.timestamp;
   references = first.references;
-  sets = first.work.controls.sets;
-  decode_params = first.work.controls.decode_params;
+  sets = first.body.controls.sets;
+  decode_params = first.body.controls.decode_params;
   flags = frame_flags slices first;
 }
 

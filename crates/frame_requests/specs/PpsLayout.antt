@@ -1,10 +1,10 @@
 -- struct v4l2_ctrl_h264_pps (linux/v4l2-controls.h).
 use Rattle.param_set_controls.specs.declared.v4l2_ctrl_h264_pps.V4l2CtrlH264Pps.{V4l2CtrlH264Pps}
 use Rattle.param_set_controls.specs.PpsForm.{pps_flags, weighted_bipred_number}
-use Rattle.frame_requests.specs.declared.layouts.pps.Pps.{Pps}
+use Rattle.frame_requests.specs.declared.layouts.pps.PpsLayout.{PpsLayout}
 
 -- each member is that of its name, as a number
-abbrev pub pps_layout : V4l2CtrlH264Pps → Pps
+abbrev pub pps_layout : V4l2CtrlH264Pps → PpsLayout
 pps_layout control = record {
   pic_parameter_set_id = control.pic_parameter_set_id;
   seq_parameter_set_id = control.seq_parameter_set_id;

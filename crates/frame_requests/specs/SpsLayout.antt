@@ -1,10 +1,10 @@
 -- struct v4l2_ctrl_h264_sps (linux/v4l2-controls.h).
 use Rattle.param_set_controls.specs.declared.v4l2_ctrl_h264_sps.V4l2CtrlH264Sps.{V4l2CtrlH264Sps}
 use Rattle.param_set_controls.specs.SpsForm.{chroma_format_number, constraint_set_number, pic_order_cnt_type_number, sps_flags}
-use Rattle.frame_requests.specs.declared.layouts.sps.Sps.{Sps}
+use Rattle.frame_requests.specs.declared.layouts.sps.SpsLayout.{SpsLayout}
 
 -- each member is that of its name, as a number
-abbrev pub sps_layout : V4l2CtrlH264Sps → Sps
+abbrev pub sps_layout : V4l2CtrlH264Sps → SpsLayout
 sps_layout control = record {
   profile_idc = control.profile_idc;
   constraint_set_flags = constraint_set_number control.constraint_set_flags;

@@ -3,6 +3,8 @@
 ghost use Rattle.std.specs.Prelude.{◌≡◌, ◌+◌, ◌≤◌, ◌++◌, vec_len, IsOk, OnOk, OnErr};
 ghost use Rattle.std.specs.Vec.{vec_capacity};
 ghost use Rattle.h264_controls.specs.DigestForm.{digest_form, digest_size, slice_form, slice_size, weights_form, weights_size};
+ghost use Rattle.h264_controls.specs.declared.controls.Controls.{Controls};
+ghost use Rattle.param_set_controls.specs.SetsForm.{sets_form};
 
 use crate::controls::Controls;
 use param_set_controls::put_sets;
@@ -94,3 +96,9 @@ fn put_weights(controls: &Controls, form: &mut Vec<u8>)
         }
     }
 }
+
+/// The digest form is that of what the parameter sets decide, and the rest after it.
+pub fn digest_in_two_parts()
+    ensures { (controls : Controls)
+        → digest_form controls ≡ sets_form controls.sets ++ slice_form controls }
+{}

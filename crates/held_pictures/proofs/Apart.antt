@@ -4,11 +4,11 @@ use Rattle.std.specs.Prelude.{Contains, IsPermutation, slice_set}
 use Rattle.std.specs.Option.{option_to_list}
 use Rattle.std.specs.Map.{keys_of, lookup, values_of}
 use Rattle.std.proofs.lemmas.List.Sorted.{IsPermutation-refl}
-use Rattle.held_pictures.specs.declared.key_slots.places.Slot.{Slot}
+use Rattle.held_pictures.specs.declared.key_slots.slots.Slot.{Slot}
 use Rattle.held_pictures.specs.Accounts.{AreApart, pictures_kept}
 use Rattle.held_pictures.specs.Counting.{times}
 use Rattle.held_pictures.specs.Left.{IsLeft}
-use Rattle.held_pictures.specs.Places.{IsTakenUp, pictures_held, slot_at, taken_up, uses_at}
+use Rattle.held_pictures.specs.KeySlots.{IsTakenUp, pictures_held, slot_at, taken_up, uses_at}
 use Rattle.held_pictures.proofs.Bags.{comes, first_up, more_up}
 use Rattle.held_pictures.proofs.Caches.{none_found}
 use Rattle.held_pictures.proofs.Counts.{some_counted}

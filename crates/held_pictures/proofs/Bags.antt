@@ -4,8 +4,8 @@ use Rattle.std.specs.Prelude.{IsPermutation, slice_set}
 use Rattle.std.specs.Option.{option_to_list}
 use Rattle.std.proofs.lemmas.Bool.{eqb-true}
 use Rattle.std.proofs.lemmas.List.Sorted.{IsPermutation-refl, IsPermutation-sym, IsPermutation-trans, IsPermutation-middle, IsPermutation-append_comm, IsPermutation-append_left, IsPermutation-append_right, IsPermutation-to_front}
-use Rattle.held_pictures.specs.declared.key_slots.places.Slot.{Slot}
-use Rattle.held_pictures.specs.Places.{slot_at, uses_at, place_of, picture_held, pictures_held, taken_up}
+use Rattle.held_pictures.specs.declared.key_slots.slots.Slot.{Slot}
+use Rattle.held_pictures.specs.KeySlots.{slot_at, uses_at, place_of, picture_held, pictures_held, taken_up}
 use Rattle.held_pictures.proofs.Slots.{place_used, place_unused, used_within}
 
 module _ {X : Type 0} where
@@ -78,31 +78,31 @@ module _ {P : Type 0} where
   held_of slot = option_to_list (picture_held (place_of slot))
 
   -- a slot that is set brings its picture, and the one that was there goes
-  pub set_held : (places : List (Slot P)) (key : ℕ) (slot : Slot P) → key < length places
-      → IsPermutation (held_of (slot_at places key) ++ pictures_held (slice_set places key slot)) (held_of slot ++ pictures_held places)
+  pub set_held : (key_slots : List (Slot P)) (key : ℕ) (slot : Slot P) → key < length key_slots
+      → IsPermutation (held_of (slot_at key_slots key) ++ pictures_held (slice_set key_slots key slot)) (held_of slot ++ pictures_held key_slots)
   set_held [] key slot within = absurd (omega (arith, within))
-  set_held (first ∷ places) zero slot within = front (held_of first) (held_of slot) (pictures_held places)
-  set_held (first ∷ places) (suc key) slot within =
-      let rest : IsPermutation (held_of (slot_at places key) ++ pictures_held (slice_set places key slot)) (held_of slot ++ pictures_held places) =
-      set_held places key slot (omega (arith, within)) in
-      IsPermutation-trans (held_of (slot_at places key) ++ (held_of first ++ pictures_held (slice_set places key slot)))
-      (held_of first ++ (held_of (slot_at places key) ++ pictures_held (slice_set places key slot)))
-      (held_of slot ++ (held_of first ++ pictures_held places))
-      (front (held_of (slot_at places key)) (held_of first) (pictures_held (slice_set places key slot)))
-      (IsPermutation-trans (held_of first ++ (held_of (slot_at places key) ++ pictures_held (slice_set places key slot)))
-      (held_of first ++ (held_of slot ++ pictures_held places))
-      (held_of slot ++ (held_of first ++ pictures_held places))
-      (IsPermutation-append_right (held_of first) (held_of (slot_at places key) ++ pictures_held (slice_set places key slot))
-      (held_of slot ++ pictures_held places) rest)
-      (front (held_of first) (held_of slot) (pictures_held places)))
+  set_held (first ∷ key_slots) zero slot within = front (held_of first) (held_of slot) (pictures_held key_slots)
+  set_held (first ∷ key_slots) (suc key) slot within =
+      let rest : IsPermutation (held_of (slot_at key_slots key) ++ pictures_held (slice_set key_slots key slot)) (held_of slot ++ pictures_held key_slots) =
+      set_held key_slots key slot (omega (arith, within)) in
+      IsPermutation-trans (held_of (slot_at key_slots key) ++ (held_of first ++ pictures_held (slice_set key_slots key slot)))
+      (held_of first ++ (held_of (slot_at key_slots key) ++ pictures_held (slice_set key_slots key slot)))
+      (held_of slot ++ (held_of first ++ pictures_held key_slots))
+      (front (held_of (slot_at key_slots key)) (held_of first) (pictures_held (slice_set key_slots key slot)))
+      (IsPermutation-trans (held_of first ++ (held_of (slot_at key_slots key) ++ pictures_held (slice_set key_slots key slot)))
+      (held_of first ++ (held_of slot ++ pictures_held key_slots))
+      (held_of slot ++ (held_of first ++ pictures_held key_slots))
+      (IsPermutation-append_right (held_of first) (held_of (slot_at key_slots key) ++ pictures_held (slice_set key_slots key slot))
+      (held_of slot ++ pictures_held key_slots) rest)
+      (front (held_of first) (held_of slot) (pictures_held key_slots)))
 
   -- one that has the same picture changes nothing
-  pub set_same : (places : List (Slot P)) (key : ℕ) (slot : Slot P) → key < length places → held_of slot ≡ held_of (slot_at places key)
-      → pictures_held (slice_set places key slot) ≡ pictures_held places
+  pub set_same : (key_slots : List (Slot P)) (key : ℕ) (slot : Slot P) → key < length key_slots → held_of slot ≡ held_of (slot_at key_slots key)
+      → pictures_held (slice_set key_slots key slot) ≡ pictures_held key_slots
   set_same [] key slot within same = absurd (omega (arith, within))
-  set_same (first ∷ places) zero slot within same = ap (λ l. l ++ pictures_held places) same
-  set_same (first ∷ places) (suc key) slot within same =
-      ap (λ l. held_of first ++ l) (set_same places key slot (omega (arith, within)) same)
+  set_same (first ∷ key_slots) zero slot within same = ap (λ l. l ++ pictures_held key_slots) same
+  set_same (first ∷ key_slots) (suc key) slot within same =
+      ap (λ l. held_of first ++ l) (set_same key_slots key slot (omega (arith, within)) same)
 
   held_used : (slot : Slot P) → 0 < slot.uses → held_of slot ≡ option_to_list slot.picture
   held_used slot used = ap (λ (place : Option (Option P)). option_to_list (picture_held place)) (place_used slot used)

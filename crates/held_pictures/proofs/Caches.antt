@@ -60,23 +60,23 @@ module _ {X : Type 0} where
       among_cond (eqb key e.0) e es (remove_entry (eqb key) es) pair (among_removed key es pair) is
 
   -- what stands after a put stood before, or it is what was put
-  pub among_put : (room key : ℕ) (x : X) (es : List (ℕ × X)) (number : ℕ) (other : X)
-      → Contains (take room ((key, x) ∷ remove_entry (eqb key) es)) (number, other)
+  pub among_put : (capacity key : ℕ) (x : X) (es : List (ℕ × X)) (number : ℕ) (other : X)
+      → Contains (take capacity ((key, x) ∷ remove_entry (eqb key) es)) (number, other)
       → Contains es (number, other) ⊎ ((number ≡ key) × (other ≡ x))
-  among_put room key x es number other is =
+  among_put capacity key x es number other is =
       elim (first_or_among (key, x) (number, other) (remove_entry (eqb key) es)
-      (among_take room ((key, x) ∷ remove_entry (eqb key) es) (number, other) is)) [
+      (among_take capacity ((key, x) ∷ remove_entry (eqb key) es) (number, other) is)) [
         | inl same ↦ inr (sym (ap (λ p. p.0) same), sym (ap (λ p. p.1) same))
         | inr later ↦ inl (among_removed key es (number, other) later)
       ]
 
   -- a pair that is put puts its key
-  pub put_keys : (room key : ℕ) (x : X) (es : List (ℕ × X)) → IsDistinct eqb (keys_of es)
-      → IsPut room key (keys_of es) (keys_of (take room ((key, x) ∷ remove_entry (eqb key) es)))
-  put_keys room key x es once = (
+  pub put_keys : (capacity key : ℕ) (x : X) (es : List (ℕ × X)) → IsDistinct eqb (keys_of es)
+      → IsPut capacity key (keys_of es) (keys_of (take capacity ((key, x) ∷ remove_entry (eqb key) es)))
+  put_keys capacity key x es once = (
     keys_of (remove_entry (eqb key) es),
     left_of_remove key es once,
-    sym (take-map (λ p. p.0) room ((key, x) ∷ remove_entry (eqb key) es)),
+    sym (take-map (λ p. p.0) capacity ((key, x) ∷ remove_entry (eqb key) es)),
   )
 
   others_by : (key number : ℕ) (e : ℕ × X) (es : List (ℕ × X)) (b : Bool) → eqb key e.0 ≡ b → (number ≡ key → ⊥)

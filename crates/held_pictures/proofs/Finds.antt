@@ -22,7 +22,7 @@ module _ {K P : Type 0} (eq : K → K → Bool) (laws : IsEquivalence eq) where
   others_after_take cache key other is apart = let rest = lookup-remove_entry laws (eq key) (λ x y h. laws.congr key x y h) other cache.pairs is.once in rw apart at rest
 
   pub others_after_put : (cache : Bounded K P) (key other : K) (picture : P) → IsBounded eq cache → length cache.pairs < cache.capacity → eq key other ≡ false → lookup (eq other) (with_first eq cache key picture).pairs ≡ lookup (eq other) cache.pairs
-  others_after_put cache key other picture is room apart =
+  others_after_put cache key other picture is capacity apart =
       let fits : length ((key, picture) ∷ remove_entry (eq key) cache.pairs) ≤ cache.capacity = omega (arith, length-remove_entry_le (eq key) cache.pairs) in
       let all = take_all cache.capacity ((key, picture) ∷ remove_entry (eq key) cache.pairs) fits in
       let turned : eq other key ≡ false = laws.symm other key ∙ apart in

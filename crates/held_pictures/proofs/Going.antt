@@ -6,10 +6,10 @@ use Rattle.std.proofs.lemmas.Bool.{eqb-true, eq-eqb}
 use Rattle.std.proofs.lemmas.List.Sums.{sum_by_more, sum_by-take-le}
 use Rattle.std.proofs.lemmas.List.Elements.{Contains-push_cases, Contains-append_left, Contains-push}
 use Rattle.std.proofs.lemmas.List.{take_more}
-use Rattle.held_pictures.specs.declared.key_slots.places.Slot.{Slot}
+use Rattle.held_pictures.specs.declared.key_slots.slots.Slot.{Slot}
 use Rattle.held_pictures.specs.Left.{IsLeft, IsPut, ArePut}
 use Rattle.held_pictures.specs.Counting.{once_if, times_in}
-use Rattle.held_pictures.specs.Places.{uses_at, place_at}
+use Rattle.held_pictures.specs.KeySlots.{uses_at, place_at}
 use Rattle.held_pictures.specs.Going.{AreAbove, AreRising, Goes, IsHeldBefore}
 use Rattle.held_pictures.proofs.Members.{here, there, nowhere, first_or_among, left_among}
 use Rattle.held_pictures.proofs.Slots.{used_some, some_used}
@@ -127,17 +127,17 @@ module _ (First Then : ℕ → Type 0) (k : ℕ) (goes : First k) (not : Then k 
       ]
 
 -- one key more is put, or lost
-pub put_last : (room : ℕ) (gone : List ℕ) (key : ℕ) (cached mid new : List ℕ) (lost more : ℕ) → ArePut room gone cached mid lost
-    → (IsPut room key mid new × (more ≡ 0)) ⊎ ((new ≡ mid) × (more ≡ 1)) → ArePut room (gone ++ key ∷ []) cached new (lost + more)
-put_last room [] key cached mid new lost more are put =
+pub put_last : (capacity : ℕ) (gone : List ℕ) (key : ℕ) (cached mid new : List ℕ) (lost more : ℕ) → ArePut capacity gone cached mid lost
+    → (IsPut capacity key mid new × (more ≡ 0)) ⊎ ((new ≡ mid) × (more ≡ 1)) → ArePut capacity (gone ++ key ∷ []) cached new (lost + more)
+put_last capacity [] key cached mid new lost more are put =
     elim put [
-      | inl is ↦ inl (new, subst (λ l. IsPut room key l new) are.0 is.0, (refl, omega (arith, are.1, is.1)))
+      | inl is ↦ inl (new, subst (λ l. IsPut capacity key l new) are.0 is.0, (refl, omega (arith, are.1, is.1)))
       | inr stays ↦ inr (0, omega (arith, are.1, stays.1), (stays.0 ∙ are.0, refl))
     ]
-put_last room (first ∷ gone) key cached mid new lost more are put =
+put_last capacity (first ∷ gone) key cached mid new lost more are put =
     elim are [
-      | inl one ↦ inl (one.0, one.1, put_last room gone key one.0 mid new lost more one.2 put)
-      | inr one ↦ inr (one.0 + more, omega (arith, one.1), put_last room gone key cached mid new one.0 more one.2 put)
+      | inl one ↦ inl (one.0, one.1, put_last capacity gone key one.0 mid new lost more one.2 put)
+      | inr one ↦ inr (one.0 + more, omega (arith, one.1), put_last capacity gone key cached mid new one.0 more one.2 put)
     ]
 
 -- how often a key stands among one more
@@ -183,25 +183,25 @@ below_it keys i key n rising within is (j, there_j, at_j) =
     get_or_any (x ∷ xs) (suc i) d e less = get_or_any xs i d e (omega (arith, less))
 
 -- of one unit that goes, one picture is lost at most
-pub lost_at_most_one : {P : Type 0} (old : List (Slot P)) (key : ℕ) (cached : List ℕ) (room : ℕ) (new : List (Slot P)) (more : List ℕ)
-    (lost : ℕ) → Goes old key cached room new more lost → lost ≤ 1
-lost_at_most_one old key cached room new more lost goes =
+pub lost_at_most_one : {P : Type 0} (old : List (Slot P)) (key : ℕ) (cached : List ℕ) (capacity : ℕ) (new : List (Slot P)) (more : List ℕ)
+    (lost : ℕ) → Goes old key cached capacity new more lost → lost ≤ 1
+lost_at_most_one old key cached capacity new more lost goes =
     elim goes.cache [
       | inl out ↦ elim out.3 [ inl put ↦ omega (arith, put.1) | inr stays ↦ omega (arith, stays.1) ]
       | inr stays ↦ omega (arith, stays.2)
     ]
 
 -- keys that went so far, put into the cache but for those that are lost
-pub record HaveGone {P : Type 0} (held leaving : List ℕ) (i : ℕ) (places : List (Slot P)) (room : ℕ) (cached new : List ℕ) (lost : ℕ) : Type 0 where
+pub record HaveGone {P : Type 0} (held leaving : List ℕ) (i : ℕ) (key_slots : List (Slot P)) (capacity : ℕ) (cached new : List ℕ) (lost : ℕ) : Type 0 where
   pub gone : List ℕ
-  pub left : IsLeft (λ number. IsSome (place_at places number)) held gone
-  pub put : ArePut room gone cached new lost
+  pub left : IsLeft (λ number. IsSome (place_at key_slots number)) held gone
+  pub put : ArePut capacity gone cached new lost
   pub among : (number : ℕ) → Contains gone number → Contains (take i leaving) number
 
 module _ {P : Type 0} (held leaving : List ℕ) (old : List (Slot P)) (before : IsHeldBefore held leaving old) where
   -- none went yet
-  pub none_gone : (room : ℕ) (cached : List ℕ) → HaveGone held leaving 0 old room cached cached 0
-  none_gone room cached = record {
+  pub none_gone : (capacity : ℕ) (cached : List ℕ) → HaveGone held leaving 0 old capacity cached cached 0
+  none_gone capacity cached = record {
     gone = [];
     left =
         all_go (λ number. IsSome (place_at old number)) held
@@ -216,8 +216,8 @@ module _ {P : Type 0} (held leaving : List ℕ) (old : List (Slot P)) (before : 
 
   module _ (i key : ℕ) (within : i < length leaving) (is : key ≡ get_or leaving i key) (rising : IsNonDecreasing leaving)
       (mid new : List (Slot P)) (stay : (number : ℕ) → 0 < uses_at mid number → place_at mid number ≡ place_at old number)
-      (used : 0 < uses_at mid key) (room : ℕ) (cached between after : List ℕ) (lost more : ℕ)
-      (goes : Goes mid key between room new after more) (have : HaveGone held leaving i mid room cached between lost) where
+      (used : 0 < uses_at mid key) (capacity : ℕ) (cached between after : List ℕ) (lost more : ℕ)
+      (goes : Goes mid key between capacity new after more) (have : HaveGone held leaving i mid capacity cached between lost) where
     later : (number : ℕ) → Contains (take i leaving) number → Contains (take (i + 1) leaving) number
     later number among =
         subst (λ l. Contains l number) (sym (take_more leaving i key within))
@@ -249,8 +249,8 @@ module _ {P : Type 0} (held leaving : List ℕ) (old : List (Slot P)) (before : 
 
     -- the key goes out of use, with a picture
     with_picture : (picture : P) → place_at mid key ≡ Some (Some picture) → uses_at new key ≡ 0
-        → (IsPut room key between after × (more ≡ 0)) ⊎ ((after ≡ between) × (more ≡ 1))
-        → HaveGone held leaving (i + 1) new room cached after (lost + more)
+        → (IsPut capacity key between after × (more ≡ 0)) ⊎ ((after ≡ between) × (more ≡ 1))
+        → HaveGone held leaving (i + 1) new capacity cached after (lost + more)
     with_picture picture place none put = record {
       gone = have.gone ++ key ∷ [];
       left =
@@ -259,7 +259,7 @@ module _ {P : Type 0} (held leaving : List ℕ) (old : List (Slot P)) (before : 
           (λ some. absurd (omega (arith, none, used_some new key some))) as_before fewer held have.gone before.rising
           (before.among key picture (item key) (sym here_old ∙ place))
           (λ n gone. omega (arith, below_it leaving i key n rising within is (have.among n gone), other_than n gone)) have.left;
-      put = put_last room have.gone key cached between after lost more have.put put;
+      put = put_last capacity have.gone key cached between after lost more have.put put;
       among = λ number gone.
           elim (Contains-push_cases have.gone key number gone) [
             | inl earlier ↦ later number (have.among number earlier)
@@ -277,15 +277,15 @@ module _ {P : Type 0} (held leaving : List ℕ) (old : List (Slot P)) (before : 
 
     -- nothing goes out of use that has a picture
     without_picture : ((picture : P) → place_at mid key ≡ Some (Some picture) → 0 < uses_at new key) → after ≡ between
-        → more ≡ 0 → HaveGone held leaving (i + 1) new room cached after (lost + more)
+        → more ≡ 0 → HaveGone held leaving (i + 1) new capacity cached after (lost + more)
     without_picture unless same none = record {
       gone = have.gone;
       left =
           left_among_same (λ number. IsSome (place_at mid number)) (λ number. IsSome (place_at new number)) held have.gone
           (λ number among some. kept (number == key) number refl among some) (λ number among some. fewer number some) have.left;
       put =
-          subst (λ l. ArePut room have.gone cached l (lost + more)) (sym same)
-          (subst (λ n. ArePut room have.gone cached between n) (omega (arith, none)) have.put);
+          subst (λ l. ArePut capacity have.gone cached l (lost + more)) (sym same)
+          (subst (λ n. ArePut capacity have.gone cached between n) (omega (arith, none)) have.put);
       among = λ number gone. later number (have.among number gone);
     }
       where
@@ -300,7 +300,7 @@ module _ {P : Type 0} (held leaving : List ℕ) (old : List (Slot P)) (before : 
             as_before number (λ same_one. let yes : (number == key) ≡ true = eq-eqb number key same_one in cc) some
 
     -- one unit more goes
-    pub gone_more : HaveGone held leaving (i + 1) new room cached after (lost + more)
+    pub gone_more : HaveGone held leaving (i + 1) new capacity cached after (lost + more)
     gone_more =
         elim goes.cache [
           | inl goes_out ↦ with_picture goes_out.0 goes_out.1 goes_out.2 goes_out.3

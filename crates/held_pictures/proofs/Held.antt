@@ -2,8 +2,8 @@
 use Rattle.std.proofs.Common.{◌≡◌, refl, sym, subst, ℕ, zero, suc, ◌+◌, ◌<◌, true, false, IsTrue, List, [], ◌∷◌, Option, None, Some, ◌↔◌, inl, inr, arith}
 use Rattle.std.specs.Prelude.{Contains}
 use Rattle.std.specs.List.{cons_option}
-use Rattle.held_pictures.specs.declared.key_slots.places.Slot.{Slot}
-use Rattle.held_pictures.specs.Places.{is_awaited, is_held, place_of, place_at, number_held, held_from, numbers_held}
+use Rattle.held_pictures.specs.declared.key_slots.slots.Slot.{Slot}
+use Rattle.held_pictures.specs.KeySlots.{is_awaited, is_held, place_of, place_at, number_held, held_from, numbers_held}
 use Rattle.held_pictures.specs.Going.{AreAbove, AreRising}
 use Rattle.held_pictures.proofs.Members.{here, there, nowhere, first_or_among}
 
@@ -13,39 +13,39 @@ not_true same = cc
 module _ {P : Type 0} where
   -- a slot of these has the number, counted from one on, and a picture
   abbrev HasPicture : ℕ → List (Slot P) → ℕ → Type 0
-  HasPicture from places number =
-      (k : ℕ) × (picture : P) × (number ≡ from + k) × (place_at places k ≡ Some (Some picture))
+  HasPicture from key_slots number =
+      (k : ℕ) × (picture : P) × (number ≡ from + k) × (place_at key_slots k ≡ Some (Some picture))
 
-  found_next : (from : ℕ) (slot : Slot P) (places : List (Slot P)) (number : ℕ) → HasPicture (suc from) places number
-      → HasPicture from (slot ∷ places) number
-  found_next from slot places number found = (suc found.0, found.1, omega (arith, found.2), found.3)
+  found_next : (from : ℕ) (slot : Slot P) (key_slots : List (Slot P)) (number : ℕ) → HasPicture (suc from) key_slots number
+      → HasPicture from (slot ∷ key_slots) number
+  found_next from slot key_slots number found = (suc found.0, found.1, omega (arith, found.2), found.3)
 
-  found_by : (from : ℕ) (slot : Slot P) (places : List (Slot P)) (number : ℕ) (place : Option (Option P)) → place_of slot ≡ place
-      → (Contains (held_from (suc from) places) number → HasPicture (suc from) places number)
-      → Contains (cons_option (number_held from place) (held_from (suc from) places)) number
-      → HasPicture from (slot ∷ places) number
-  found_by from slot places number None place later is = found_next from slot places number (later is)
-  found_by from slot places number (Some None) place later is = found_next from slot places number (later is)
-  found_by from slot places number (Some (Some picture)) place later is =
-      elim (first_or_among from number (held_from (suc from) places) is) [
+  found_by : (from : ℕ) (slot : Slot P) (key_slots : List (Slot P)) (number : ℕ) (place : Option (Option P)) → place_of slot ≡ place
+      → (Contains (held_from (suc from) key_slots) number → HasPicture (suc from) key_slots number)
+      → Contains (cons_option (number_held from place) (held_from (suc from) key_slots)) number
+      → HasPicture from (slot ∷ key_slots) number
+  found_by from slot key_slots number None place later is = found_next from slot key_slots number (later is)
+  found_by from slot key_slots number (Some None) place later is = found_next from slot key_slots number (later is)
+  found_by from slot key_slots number (Some (Some picture)) place later is =
+      elim (first_or_among from number (held_from (suc from) key_slots) is) [
         | inl same ↦ (0, picture, omega (arith, same), place)
-        | inr among ↦ found_next from slot places number (later among)
+        | inr among ↦ found_next from slot key_slots number (later among)
       ]
 
   -- a number among those from one on is that of a slot with a picture
-  found_from : (from : ℕ) (places : List (Slot P)) (number : ℕ) → Contains (held_from from places) number
-      → HasPicture from places number
+  found_from : (from : ℕ) (key_slots : List (Slot P)) (number : ℕ) → Contains (held_from from key_slots) number
+      → HasPicture from key_slots number
   found_from from [] number is = absurd (nowhere number is)
-  found_from from (slot ∷ places) number is =
-      found_by from slot places number (place_of slot) refl (found_from (suc from) places number) is
+  found_from from (slot ∷ key_slots) number is =
+      found_by from slot key_slots number (place_of slot) refl (found_from (suc from) key_slots number) is
 
   -- a number whose picture is held
-  pub held_found : (places : List (Slot P)) (number : ℕ) → Contains (numbers_held places) number
-      → (picture : P) × (place_at places number ≡ Some (Some picture))
-  held_found places number is =
-      let found = found_from 0 places number is in
+  pub held_found : (key_slots : List (Slot P)) (number : ℕ) → Contains (numbers_held key_slots) number
+      → (picture : P) × (place_at key_slots number ≡ Some (Some picture))
+  held_found key_slots number is =
+      let found = found_from 0 key_slots number is in
       let same : found.0 ≡ number = omega (arith, found.2) in
-      (found.1, subst (λ n. place_at places n ≡ Some (Some found.1)) same found.3)
+      (found.1, subst (λ n. place_at key_slots n ≡ Some (Some found.1)) same found.3)
 
   in_rest : (from : ℕ) (place : Option (Option P)) (rest : List ℕ) (number : ℕ) → Contains rest number
       → Contains (cons_option (number_held from place) rest) number
@@ -74,23 +74,23 @@ module _ {P : Type 0} where
   awaited_told (Some None) = (λ yes. refl, λ is. refl)
   awaited_told (Some (Some picture)) = (λ yes. absurd (not_true yes), λ is. absurd (empty_some picture (sym is)))
 
-  held_there : (from : ℕ) (places : List (Slot P)) (k : ℕ) (picture : P) → place_at places k ≡ Some (Some picture)
-      → Contains (held_from from places) (from + k)
+  held_there : (from : ℕ) (key_slots : List (Slot P)) (k : ℕ) (picture : P) → place_at key_slots k ≡ Some (Some picture)
+      → Contains (held_from from key_slots) (from + k)
   held_there from [] k picture is = absurd (none_some picture is)
-  held_there from (slot ∷ places) zero picture is =
+  held_there from (slot ∷ key_slots) zero picture is =
       let same : from ≡ from + 0 = omega arith in
-      subst (λ (place : Option (Option P)). Contains (cons_option (number_held from place) (held_from (suc from) places)) (from + 0)) (sym is)
-      (subst (λ n. Contains (from ∷ held_from (suc from) places) n) same (here from (held_from (suc from) places)))
-  held_there from (slot ∷ places) (suc k) picture is =
+      subst (λ (place : Option (Option P)). Contains (cons_option (number_held from place) (held_from (suc from) key_slots)) (from + 0)) (sym is)
+      (subst (λ n. Contains (from ∷ held_from (suc from) key_slots) n) same (here from (held_from (suc from) key_slots)))
+  held_there from (slot ∷ key_slots) (suc k) picture is =
       let same : suc from + k ≡ from + suc k = omega arith in
-      in_rest from (place_of slot) (held_from (suc from) places) (from + suc k)
-      (subst (Contains (held_from (suc from) places)) same (held_there (suc from) places k picture is))
+      in_rest from (place_of slot) (held_from (suc from) key_slots) (from + suc k)
+      (subst (Contains (held_from (suc from) key_slots)) same (held_there (suc from) key_slots k picture is))
 
-  pub found_held : (places : List (Slot P)) (number : ℕ) (picture : P) → place_at places number ≡ Some (Some picture)
-      → Contains (numbers_held places) number
-  found_held places number picture is =
+  pub found_held : (key_slots : List (Slot P)) (number : ℕ) (picture : P) → place_at key_slots number ≡ Some (Some picture)
+      → Contains (numbers_held key_slots) number
+  found_held key_slots number picture is =
       let same : 0 + number ≡ number = omega arith in
-      subst (Contains (numbers_held places)) same (held_there 0 places number picture is)
+      subst (Contains (numbers_held key_slots)) same (held_there 0 key_slots number picture is)
 
   above_by : (least from : ℕ) (rest : List ℕ) (place : Option (Option P)) → least < from → AreAbove from rest → AreAbove least rest
       → AreAbove least (cons_option (number_held from place) rest)
@@ -98,11 +98,11 @@ module _ {P : Type 0} where
   above_by least from rest (Some None) less above lower = lower
   above_by least from rest (Some (Some picture)) less above lower = (less, above)
 
-  above_from : (least from : ℕ) (places : List (Slot P)) → least < from → AreAbove least (held_from from places)
+  above_from : (least from : ℕ) (key_slots : List (Slot P)) → least < from → AreAbove least (held_from from key_slots)
   above_from least from [] less = tt
-  above_from least from (slot ∷ places) less =
-      above_by least from (held_from (suc from) places) (place_of slot) less (above_from from (suc from) places (omega arith))
-      (above_from least (suc from) places (omega (arith, less)))
+  above_from least from (slot ∷ key_slots) less =
+      above_by least from (held_from (suc from) key_slots) (place_of slot) less (above_from from (suc from) key_slots (omega arith))
+      (above_from least (suc from) key_slots (omega (arith, less)))
 
   rising_by : (from : ℕ) (rest : List ℕ) (place : Option (Option P)) → AreAbove from rest → AreRising rest
       → AreRising (cons_option (number_held from place) rest)
@@ -110,12 +110,12 @@ module _ {P : Type 0} where
   rising_by from rest (Some None) above rising = rising
   rising_by from rest (Some (Some picture)) above rising = above
 
-  rising_from : (from : ℕ) (places : List (Slot P)) → AreRising (held_from from places)
+  rising_from : (from : ℕ) (key_slots : List (Slot P)) → AreRising (held_from from key_slots)
   rising_from from [] = tt
-  rising_from from (slot ∷ places) =
-      rising_by from (held_from (suc from) places) (place_of slot) (above_from from (suc from) places (omega arith))
-      (rising_from (suc from) places)
+  rising_from from (slot ∷ key_slots) =
+      rising_by from (held_from (suc from) key_slots) (place_of slot) (above_from from (suc from) key_slots (omega arith))
+      (rising_from (suc from) key_slots)
 
   -- the numbers rise
-  pub held_rising : (places : List (Slot P)) → AreRising (numbers_held places)
-  held_rising places = rising_from 0 places
+  pub held_rising : (key_slots : List (Slot P)) → AreRising (numbers_held key_slots)
+  held_rising key_slots = rising_from 0 key_slots

@@ -5,9 +5,9 @@ use Rattle.std.specs.List.{cons_option}
 use Rattle.std.specs.Option.{option_to_list}
 use Rattle.std.proofs.lemmas.Bool.{eqb-true, eq-eqb}
 use Rattle.std.proofs.lemmas.List.{get_or-set_same, get_or-set_other}
-use Rattle.held_pictures.specs.declared.key_slots.places.Slot.{Slot}
+use Rattle.held_pictures.specs.declared.key_slots.slots.Slot.{Slot}
 use Rattle.held_pictures.specs.Counting.{once_if}
-use Rattle.held_pictures.specs.Places.{AreSame, no_slot, slot_at, uses_at, place_of, place_at, picture_held, pictures_held, number_held, held_from}
+use Rattle.held_pictures.specs.KeySlots.{AreSame, no_slot, slot_at, uses_at, place_of, place_at, picture_held, pictures_held, number_held, held_from}
 
 not_same : (a b : ℕ) → false ≡ (a == b) → a ≡ b → ⊥
 not_same a b differ same =
@@ -42,43 +42,43 @@ module _ {P : Type 0} where
       omega (arith, not)
 
   -- a key that has a place is in use
-  pub used_some : (places : List (Slot P)) (number : ℕ) → IsSome (place_at places number) → 0 < uses_at places number
-  used_some places number some =
-      used_by (uses_at places number == 0) (uses_at places number) (slot_at places number).picture refl some
+  pub used_some : (key_slots : List (Slot P)) (number : ℕ) → IsSome (place_at key_slots number) → 0 < uses_at key_slots number
+  used_some key_slots number some =
+      used_by (uses_at key_slots number == 0) (uses_at key_slots number) (slot_at key_slots number).picture refl some
 
-  pub some_used : (places : List (Slot P)) (number : ℕ) → 0 < uses_at places number → IsSome (place_at places number)
-  some_used places number used = subst IsSome (sym (place_used (slot_at places number) used)) refl
+  pub some_used : (key_slots : List (Slot P)) (number : ℕ) → 0 < uses_at key_slots number → IsSome (place_at key_slots number)
+  some_used key_slots number used = subst IsSome (sym (place_used (slot_at key_slots number) used)) refl
 
-  slot_more : (places : List (Slot P)) (number : ℕ) → slot_at (places ++ no_slot ∷ []) number ≡ slot_at places number
+  slot_more : (key_slots : List (Slot P)) (number : ℕ) → slot_at (key_slots ++ no_slot ∷ []) number ≡ slot_at key_slots number
   slot_more [] zero = refl
   slot_more [] (suc number) = refl
-  slot_more (slot ∷ places) zero = refl
-  slot_more (slot ∷ places) (suc number) = slot_more places number
+  slot_more (slot ∷ key_slots) zero = refl
+  slot_more (slot ∷ key_slots) (suc number) = slot_more key_slots number
 
-  held_more : (number : ℕ) (places : List (Slot P)) → held_from number (places ++ no_slot ∷ []) ≡ held_from number places
+  held_more : (number : ℕ) (key_slots : List (Slot P)) → held_from number (key_slots ++ no_slot ∷ []) ≡ held_from number key_slots
   held_more number [] = refl
-  held_more number (slot ∷ places) = ap (cons_option (number_held number (place_of slot))) (held_more (suc number) places)
+  held_more number (slot ∷ key_slots) = ap (cons_option (number_held number (place_of slot))) (held_more (suc number) key_slots)
 
-  pictures_more : (places : List (Slot P)) → pictures_held (places ++ no_slot ∷ []) ≡ pictures_held places
+  pictures_more : (key_slots : List (Slot P)) → pictures_held (key_slots ++ no_slot ∷ []) ≡ pictures_held key_slots
   pictures_more [] = refl
-  pictures_more (slot ∷ places) = ap (λ rest. option_to_list (picture_held (place_of slot)) ++ rest) (pictures_more places)
+  pictures_more (slot ∷ key_slots) = ap (λ rest. option_to_list (picture_held (place_of slot)) ++ rest) (pictures_more key_slots)
 
   -- a slot more that no unit uses
-  pub pushed_same : (places : List (Slot P)) → AreSame places (places ++ no_slot ∷ [])
-  pushed_same places = record { slots = slot_more places; held = held_more 0 places; pictures = pictures_more places }
+  pub pushed_same : (key_slots : List (Slot P)) → AreSame key_slots (key_slots ++ no_slot ∷ [])
+  pushed_same key_slots = record { slots = slot_more key_slots; held = held_more 0 key_slots; pictures = pictures_more key_slots }
 
-  pub used_within : (places : List (Slot P)) (number : ℕ) → 0 < uses_at places number → number < length places
+  pub used_within : (key_slots : List (Slot P)) (number : ℕ) → 0 < uses_at key_slots number → number < length key_slots
   used_within [] number used = absurd (omega (arith, used))
-  used_within (slot ∷ places) zero used = omega arith
-  used_within (slot ∷ places) (suc number) used = omega (arith, used_within places number used)
+  used_within (slot ∷ key_slots) zero used = omega arith
+  used_within (slot ∷ key_slots) (suc number) used = omega (arith, used_within key_slots number used)
 
   module _ (old new : List (Slot P)) (key : ℕ) (slot : Slot P) (within : key < length old) (is : new ≡ slice_set old key slot) where
     pub at_key : slot_at new key ≡ slot
-    at_key = ap (λ (places : List (Slot P)). slot_at places key) is ∙ get_or-set_same old key slot no_slot within
+    at_key = ap (λ (key_slots : List (Slot P)). slot_at key_slots key) is ∙ get_or-set_same old key slot no_slot within
 
     pub at_other : (number : ℕ) → (key ≡ number → ⊥) → slot_at new number ≡ slot_at old number
     at_other number apart =
-        ap (λ (places : List (Slot P)). slot_at places number) is
+        ap (λ (key_slots : List (Slot P)). slot_at key_slots number) is
         ∙ get_or-set_other old key number slot no_slot (λ same. apart (sym same))
 
   -- one unit less uses a key

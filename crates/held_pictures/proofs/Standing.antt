@@ -2,12 +2,12 @@
 use Rattle.std.proofs.Common.{◌≡◌, refl, sym, ap, ◌∙◌, subst, ℕ, zero, suc, List, [], ◌∷◌, length, take, Option, None, Some, slice_get, arith}
 use Rattle.std.specs.List.{zip}
 use Rattle.std.proofs.lemmas.Option.{none-some, same_Some, slice_get_within}
-use Rattle.h264_controls.specs.declared.work.Work.{Work}
+use Rattle.h264_controls.specs.declared.request.RequestBody.{RequestBody}
 use Rattle.unit_outcomes.specs.declared.outcome.Outcome.{Outcome}
 use Rattle.unit_outcomes.specs.declared.outcome.Outcome.TheVariants.{Plan as Planned, Fault as Faulty, Empty}
 use Rattle.unit_outcomes.specs.declared.outcome.Plan.{Plan}
 use Rattle.decode_jobs.specs.KeyMaps.{KeyMap, IsKeyMap, tree_at}
-use Rattle.held_pictures.specs.declared.key_slots.places.Slot.{Slot}
+use Rattle.held_pictures.specs.declared.key_slots.slots.Slot.{Slot}
 use Rattle.decode_jobs.specs.Keys.{Key}
 use Rattle.picture_keys.specs.Known.{Known, key_at, key_of, key_of_outcome, known_with, known_after, keys_after, keys_of}
 use Rattle.picture_keys.specs.Numbered.{StandsFor, AllStandFor}
@@ -58,7 +58,7 @@ valid_there units at key is = by_outcome found.0.0 found.0.1 found.1.got found.1
     by_outcome id Empty got key_is =
         absurd (none-some key (sym (same_Some (Some key) None (sym is ∙ key_is))))
 
-module _ (keys : KeyMap (List Work)) where
+module _ (keys : KeyMap (List RequestBody)) where
   -- the key that a number stands for
   pub stands_at : (found : List (Option ℕ)) (trees : List (Option Key)) → AllStandFor keys found trees → (at : ℕ)
       (number : Option ℕ) (tree : Option Key) → slice_get found at ≡ Some number → slice_get trees at ≡ Some tree
@@ -100,7 +100,7 @@ module _ (keys : KeyMap (List Work)) where
   key_of_number n None stands = absurd stands
   key_of_number n (Some key) stands = (key, refl, stands)
 
-module _ (keys : KeyMap (List Work)) (ids : List ℕ) (outcomes : List Outcome) (found : List (Option ℕ))
+module _ (keys : KeyMap (List RequestBody)) (ids : List ℕ) (outcomes : List Outcome) (found : List (Option ℕ))
     (stand : AllStandFor keys found (keys_of (zip ids outcomes))) where
   -- a valid unit's key has a number
   pub found_of_valid : (at id : ℕ) → IsValid (zip ids outcomes) at id → (n : ℕ) × (slice_get found at ≡ Some (Some n))
@@ -120,8 +120,8 @@ module _ (keys : KeyMap (List Work)) (ids : List ℕ) (outcomes : List Outcome) 
       let valid = valid_there (zip ids outcomes) at key.0 (tree.1 ∙ ap Some key.1) in
       (valid.0, valid.1, valid.2, key.2 ∙ ap Some valid.3)
 
-  module _ {P : Type 0} (one : IsKeyMap keys) (places : List (Slot P)) (at number : ℕ) (number_is : slice_get found at ≡ Some (Some number))
-      (other : ℕ) (names : Names (zip ids outcomes) at other) (waits : IsWaiting found places other) where
+  module _ {P : Type 0} (one : IsKeyMap keys) (key_slots : List (Slot P)) (at number : ℕ) (number_is : slice_get found at ≡ Some (Some number))
+      (other : ℕ) (names : Names (zip ids outcomes) at other) (waits : IsWaiting found key_slots other) where
     -- the keys that are known where a unit is
     abbrev pub known_there : Known
     known_there = known_after [] (take at (zip ids outcomes))
@@ -135,9 +135,9 @@ module _ (keys : KeyMap (List Work)) (ids : List ℕ) (outcomes : List Outcome) 
         (key.0, key.1, key.2)
 
     -- and no picture of it is held
-    pub named_waits : (n : ℕ) → tree_at keys n ≡ Some named_key.0 → IsHeld places n → ⊥
+    pub named_waits : (n : ℕ) → tree_at keys n ≡ Some named_key.0 → IsHeld key_slots n → ⊥
     named_waits n is held =
-        waits.2 (subst (IsHeld places) (one.trees n waits.0 named_key.0 is named_key.2) held)
+        waits.2 (subst (IsHeld key_slots) (one.trees n waits.0 named_key.0 is named_key.2) held)
 
     -- the unit that names it has the key of its number
     pub own_key : (own : ℕ) (plan : Plan) → slice_get (zip ids outcomes) at ≡ Some (own, Planned plan)

@@ -4,9 +4,9 @@ use Rattle.std.specs.Prelude.{Contains}
 use Rattle.std.specs.Map.{lookup}
 use Rattle.std.proofs.lemmas.List.Sums.{sum_by_more, sum_by-le}
 use Rattle.std.proofs.lemmas.List.Elements.{Contains-get_or}
-use Rattle.held_pictures.specs.declared.key_slots.places.Slot.{Slot}
+use Rattle.held_pictures.specs.declared.key_slots.slots.Slot.{Slot}
 use Rattle.held_pictures.specs.Counting.{once_at, times}
-use Rattle.held_pictures.specs.Places.{AreSame, IsTakenUp, slot_at, uses_at, place_at, kept_or}
+use Rattle.held_pictures.specs.KeySlots.{AreSame, IsTakenUp, slot_at, uses_at, place_at, kept_or}
 use Rattle.held_pictures.proofs.Slots.{place_used, place_unused}
 
 -- one key more
@@ -48,12 +48,12 @@ module _ {P : Type 0} where
   kept_some (Some other) picture cached is = refl
 
   -- none comes
-  pub none_up : (places : List (Slot P)) (cached : List (ℕ × P)) (number : ℕ) → IsTakenUp places cached 0 places number
-  none_up places cached number = record {
+  pub none_up : (key_slots : List (Slot P)) (cached : List (ℕ × P)) (number : ℕ) → IsTakenUp key_slots cached 0 key_slots number
+  none_up key_slots cached number = record {
     uses = omega arith;
     place = λ used.
-        sym (kept_some (place_at places number) (slot_at places number).picture (lookup (λ other. number == other) cached)
-        (place_used (slot_at places number) used));
+        sym (kept_some (place_at key_slots number) (slot_at key_slots number).picture (lookup (λ other. number == other) cached)
+        (place_used (slot_at key_slots number) used));
   }
 
   -- some come, and then others; what is cached under the key stays as long as none of it comes

@@ -7,7 +7,7 @@ use Rattle.decode_jobs.specs.Keys.{Key}
 use Rattle.picture_keys.specs.Known.{Known, key_of_outcome, known_with, known_after, keys_after}
 use Rattle.picture_keys.specs.Numbered.{AllStandFor}
 use Rattle.picture_keys.specs.Decodable.{OutcomeCanDecode, AllCanDecode}
-use Rattle.h264_controls.specs.declared.work.Work.{Work}
+use Rattle.h264_controls.specs.declared.request.RequestBody.{RequestBody}
 use Rattle.decode_jobs.specs.KeyMaps.{KeyMap}
 
 -- the unit at a place, after those whose keys are known: it stands between those before and those
@@ -48,7 +48,7 @@ second_at (id ∷ ids) (first ∷ outcomes) (suc at) unit outcome got is within 
     second_at ids outcomes at unit outcome got is (omega (arith, within))
 
 -- the first numbers stand for the first keys
-pub stand_take : (keys : KeyMap (List Work)) (found : List (Option ℕ)) (trees : List (Option Key)) (n : ℕ) → AllStandFor keys found trees
+pub stand_take : (keys : KeyMap (List RequestBody)) (found : List (Option ℕ)) (trees : List (Option Key)) (n : ℕ) → AllStandFor keys found trees
     → AllStandFor keys (take n found) (take n trees)
 stand_take keys found trees zero all = tt
 stand_take keys [] [] (suc n) all = tt

@@ -6,14 +6,14 @@ use Rattle.std.proofs.Common.{rules}
 use Rattle.std.proofs.lemmas.Bool.{eqb-true}
 use Rattle.std.proofs.lemmas.Option.{none-some, same_Some, slice_get-get_or}
 use Rattle.h264_controls.specs.declared.request.Request.{Request}
-use Rattle.h264_controls.specs.declared.work.Work.{Work}
+use Rattle.h264_controls.specs.declared.request.RequestBody.{RequestBody}
 use Rattle.unit_outcomes.specs.declared.outcome.Outcome.{Outcome}
 use Rattle.unit_outcomes.specs.declared.outcome.Outcome.TheVariants.{Plan as Planned, Fault as Faulty, Empty}
 use Rattle.unit_outcomes.specs.declared.outcome.Plan.{Plan}
 use Rattle.decode_jobs.specs.KeyMaps.{KeyMap, IsNodeOf, named, tree_at, tree_of}
 use Rattle.decode_jobs.specs.Nodes.{NodeOf}
-use Rattle.held_pictures.specs.declared.key_slots.places.Slot.{Slot}
-use Rattle.decode_jobs.specs.Keys.{Key, named_by_all, works_of}
+use Rattle.held_pictures.specs.declared.key_slots.slots.Slot.{Slot}
+use Rattle.decode_jobs.specs.Keys.{Key, named_by_all, bodies_of}
 use Rattle.picture_keys.specs.Known.{Known, key_at, key_of}
 use Rattle.held_pictures.specs.Held.{AreWanted, IsHeld}
 use Rattle.held_pictures.specs.Needed.{IsValid}
@@ -62,15 +62,15 @@ id_of_valid (own ∷ ids) (first ∷ outcomes) zero id (plan, is) =
     ap (λ (unit : ℕ × Outcome). Some unit.0) (same_Some (own, first) (id, Planned plan) is)
 id_of_valid (own ∷ ids) (first ∷ outcomes) (suc at) id (plan, is) = id_of_valid ids outcomes at id (plan, is)
 
-module _ {P : Type 0} (keys : KeyMap (List Work)) (places : List (Slot P)) (key : ℕ) (node : NodeOf (List Work))
+module _ {P : Type 0} (keys : KeyMap (List RequestBody)) (key_slots : List (Slot P)) (key : ℕ) (node : NodeOf (List RequestBody))
     (is_node : IsNodeOf keys key node) (known : Known) (plan : Plan)
     (tree_is : tree_at keys key ≡ Some (key_of known plan.requests)) where
   same_key : tree_of keys node ≡ key_of known plan.requests
   same_key = same_Some (tree_of keys node) (key_of known plan.requests) (sym is_node.tree ∙ tree_is)
 
-  module _ (wanted : List ℕ) (are : AreWanted places (named_by_all plan.requests) node.entries wanted) (id : ℕ) (own : Key)
+  module _ (wanted : List ℕ) (are : AreWanted key_slots (named_by_all plan.requests) node.entries wanted) (id : ℕ) (own : Key)
       (known_is : key_at known id ≡ Some own)
-      (waits : (number : ℕ) → tree_at keys number ≡ Some own → IsHeld places number → ⊥) where
+      (waits : (number : ℕ) → tree_at keys number ≡ Some own → IsHeld key_slots number → ⊥) where
     by_entry : (i : ℕ) (entry : Option ℕ) → slice_get node.entries i ≡ Some entry
         → slice_get (named_by_all plan.requests) i ≡ Some (Some id) → named keys entry ≡ Some own → Contains wanted id
     by_entry i None entry_is unit_is named_is = absurd (none-some own named_is)
@@ -81,9 +81,9 @@ module _ {P : Type 0} (keys : KeyMap (List Work)) (places : List (Slot P)) (key 
     named_wanted among =
         let unit_is : slice_get (named_by_all plan.requests) among.0 ≡ Some (Some id) =
         slice_get-get_or (named_by_all plan.requests) among.0 (Some id) among.1 ∙ ap Some among.2 in
-        let many = entries_many keys known node.work (works_of plan.requests) node.entries (named_by_all plan.requests) same_key in
+        let many = entries_many keys known node.content (bodies_of plan.requests) node.entries (named_by_all plan.requests) same_key in
         let within : among.0 < length node.entries = omega (arith, among.1, many) in
         let entry_is = slice_get-get_or node.entries among.0 None within in
-        let same = entry_same keys known node.work (works_of plan.requests) node.entries (named_by_all plan.requests) same_key
+        let same = entry_same keys known node.content (bodies_of plan.requests) node.entries (named_by_all plan.requests) same_key
         among.0 (get_or node.entries among.0 None) (Some id) entry_is unit_is in
         by_entry among.0 (get_or node.entries among.0 None) entry_is unit_is (same ∙ known_is)

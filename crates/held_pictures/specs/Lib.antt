@@ -1,7 +1,7 @@
 pub mod Bounded
 pub mod Left
 pub mod Counting
-pub mod Places
+pub mod KeySlots
 pub mod Accounts
 pub mod Going
 pub mod Columns

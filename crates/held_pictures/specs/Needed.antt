@@ -34,9 +34,9 @@ pub data IsNeeded (units : List (ℕ × Outcome)) (Waits : ℕ → Type 0) (targ
 -- places fall: each is above all behind it
 abbrev pub AreFalling : List ℕ → Type 0
 AreFalling [] = Unit {0}
-AreFalling (place ∷ places) = ((other : ℕ) → Contains places other → other < place) × AreFalling places
+AreFalling (place ∷ key_slots) = ((other : ℕ) → Contains key_slots other → other < place) × AreFalling key_slots
 
 -- these are the places of the set, the last one first
-pub record AreNeeded (units : List (ℕ × Outcome)) (Waits : ℕ → Type 0) (target : ℕ) (places : List ℕ) : Type 0 where
-  pub falling : AreFalling places
-  pub are : (at : ℕ) → Contains places at ↔ IsNeeded units Waits target at
+pub record AreNeeded (units : List (ℕ × Outcome)) (Waits : ℕ → Type 0) (target : ℕ) (key_slots : List ℕ) : Type 0 where
+  pub falling : AreFalling key_slots
+  pub are : (at : ℕ) → Contains key_slots at ↔ IsNeeded units Waits target at

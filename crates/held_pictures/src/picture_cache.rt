@@ -4,7 +4,7 @@
 //! new pair pushes out the last one. What a key and a picture are is left to the crates above.
 
 mod cache;
-mod laws;
 
-pub use cache::{MOST_ROOM, PictureCache};
-pub use laws::{put_is_found, put_keeps_the_others, take_keeps_the_others};
+pub use cache::{
+    MOST_CAPACITY, PictureCache, put_is_found, put_keeps_the_others, take_keeps_the_others,
+};

@@ -13,17 +13,17 @@ const SIZE: usize = 256 * 1024;
 
 /// What reads a stream.
 #[derive(Drop)]
-pub(crate) struct Input {
+pub(crate) struct MendInput {
     chunk: Vec<u8>,
     /// How many bytes were read.
     count: u64,
     ghost room: { 0 < length chunk.items },
 }
 
-impl Input {
+impl MendInput {
     /// Before the first byte.
-    pub(crate) fn new(alloc: Global) -> Result<Input, AllocError> {
-        Ok(Input {
+    pub(crate) fn new(alloc: Global) -> Result<MendInput, AllocError> {
+        Ok(MendInput {
             chunk: vec![in alloc; 0; SIZE]?,
             count: 0,
         })

@@ -6,7 +6,6 @@
 #![tactic(auto)]
 
 mod input;
-mod lines;
 mod running;
 #[cfg(test)]
 mod tests;

@@ -1,6 +1,6 @@
 //! `preview mend`: a stream read, mended and written as it comes.
 
-ghost use Rattle.std.specs.Prelude.{◌≡◌, ◌≢◌, ◌++◌, ℕ, List, Option, IfErr, IfSome, IsOk, OnErr, OnOk, string_bytes};
+ghost use Rattle.std.specs.Prelude.{◌≡◌, ◌≢◌, ◌++◌, ℕ, List, Option, IfErr, IfSome, IsOk, OnErr, OnOk, string_bytes, Some};
 ghost use Rattle.std.specs.Io.KnownBytes.{Appends, IsAtEnd};
 ghost use Rattle.console_io.specs.Chunks.{AppendsFront};
 ghost use Rattle.console_io.specs.Messages.{Tells};
@@ -11,15 +11,31 @@ ghost use Rattle.mend_run.specs.Runs.{EndsBy, PassesFront, IsBroken, IsSoFar, Is
 ghost use Rattle.mend_run.specs.declared.running.MendFault.{MendFault as Fault};
 ghost use Rattle.mend_run.specs.declared.running.MendFault.TheVariants.{Memory, Unwritten};
 
-use crate::input::Input;
-use crate::lines::Lines;
+use crate::input::MendInput;
 use console_io::{
     Console, Ended, InputFault, PrintFault, Sink, Status, say_out_of_memory, say_unread,
     write_bytes,
 };
 use std::alloc::{AllocError, Global};
+use std::fmt;
+use std::fmt::{Display, Formatter, Write};
 use std::io::Read;
-use stream_mending::{Mended, Mender};
+use stream_mending::{LeftOut, Mended, Mender};
+
+/// The lines that tell what was left out, one each.
+#[derive(Drop)]
+pub(crate) struct LeftOutLines<'a>(pub(crate) &'a [LeftOut]);
+
+impl<'a> Display for LeftOutLines<'a> {
+    ghost output = { λ lines. Some (told_text lines.0.now) };
+
+    fn fmt<W: Write>(&self, f: &mut Formatter<W>) -> fmt::Result {
+        for left_out in self.0 {
+            writeln!(f, "{left_out}")?;
+        }
+        Ok(())
+    }
+}
 
 /// Why a stream isn't mended.
 #[derive(Clone, Copy, Debug, PartialEq, Eq)]
@@ -103,7 +119,7 @@ fn mend_through<R: Read, W: Sink, E: Sink>(
 {
     let mut mender = Mender::new();
     let mut held = Vec::new(alloc);
-    let mut input = Input::new(alloc)?;
+    let mut input = MendInput::new(alloc)?;
     while input.read_more(reader, &mut held)? {
         mend_held(alloc, &mut mender, &mut held, console, told)?;
     }
@@ -181,7 +197,7 @@ fn pass_on<W: Sink, E: Sink>(
     ensures unwritten { IfErr result (λ fault. PassesFront fault (W.refuses console.new.output)
         (W.contents console.old.output) (W.contents console.new.output) mended.now.bytes.items) }
 {
-    let lines = Lines(&mended.left_out).to_string(alloc)?;
+    let lines = LeftOutLines(&mended.left_out).to_string(alloc)?;
     if write_bytes(&mut console.output, &mended.bytes).is_err() {
         return Err(MendFault::Unwritten);
     }

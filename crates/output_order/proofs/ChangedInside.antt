@@ -11,7 +11,7 @@ use Rattle.output_order.specs.declared.counting.Count.{Count}
 use Rattle.output_order.specs.declared.touching.Touched.{Touched}
 use Rattle.output_order.specs.Shown.{begins_period}
 use Rattle.output_order.specs.Periods.{PeriodValue, units_of, IsPeriod, IsBegun, ArePeriods, spliced}
-use Rattle.output_order.specs.Kept.{InsideValue, changed_inside, last_changed, changed, FitsInside, IsSplice, AreCounted}
+use Rattle.output_order.specs.PeriodLists.{InsideValue, changed_inside, last_changed, changed, FitsInside, IsSplice, AreCounted}
 use Rattle.output_order.specs.Places.{IsTouched, IsInside, IsTouchedInside, change_inside}
 use Rattle.output_order.proofs.Starts.{units_more, units_before}
 use Rattle.output_order.proofs.Splices.{periods_after, units_after}
@@ -183,7 +183,7 @@ module _ (periods : List PeriodValue) (are : ArePeriods periods) (touched : Touc
       fits_inside = rw at (record {
         ordered = omega (arith, ordered);
         within = omega (arith, upto);
-        room = omega (arith, inside.room d, ordered, inside.kept);
+        spare = omega (arith, inside.spare d, ordered, inside.kept);
       })
 
 -- the one period inside which units can come is the one that is touched
@@ -209,6 +209,6 @@ touched_inside periods touched at low high units ordered is inside =
       one = omega (arith, first, past);
       kept = rw (is.start_is, first) inside.kept;
       few = inside.few;
-      room = rw first inside.room;
+      spare = rw first inside.spare;
       none = inside.none;
     }

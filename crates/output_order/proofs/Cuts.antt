@@ -53,25 +53,25 @@ module _ (units : List (Option Shown)) (start at : ℕ) (periods : List PeriodVa
   IsBegun-last more = IsBegun-from last (λ d. ap begins_period (element 0 d (omega arith)) ∙ ap (λ place. begins_period (get_or units place d)) (let same : start + 0 ≡ start = omega arith in same) ∙ cut.begins more d)
 
   abbrev more : ℕ → List PeriodValue
-  more room = periods ++ record { units = last; room = room } ∷ []
+  more spare = periods ++ record { units = last; spare = spare } ∷ []
 
-  pub periods_more : (room : ℕ) → ArePeriods (more room)
-  periods_more room = ArePeriods-push periods (record { units = last; room = room }) cut.periods_are IsPeriod-last IsBegun-last
+  pub periods_more : (spare : ℕ) → ArePeriods (more spare)
+  periods_more spare = ArePeriods-push periods (record { units = last; spare = spare }) cut.periods_are IsPeriod-last IsBegun-last
 
-  pub units_more : (room : ℕ) → units_of (more room) ≡ take at units
-  units_more room =
+  pub units_more : (spare : ℕ) → units_of (more spare) ≡ take at units
+  units_more spare =
       let front : take start (take at units) ≡ take start units = take-take start at units cut.ordered in
       let sum : start + (at - start) ≡ at = omega (arith, cut.ordered) in
       let back : drop start (take at units) ≡ last = ap (λ n. drop start (take n units)) (sym sum) ∙ drop-take start (at - start) units in
-      units_of-append periods (record { units = last; room = room } ∷ []) ∙ ap (λ rest. units_of periods ++ rest) (append-nil last) ∙ ap (λ all. all ++ last) (cut.units_are ∙ sym front)
+      units_of-append periods (record { units = last; spare = spare } ∷ []) ∙ ap (λ rest. units_of periods ++ rest) (append-nil last) ∙ ap (λ all. all ++ last) (cut.units_are ∙ sym front)
       ∙ ap (λ all. take start (take at units) ++ all) (sym back) ∙ take-append-drop start (take at units)
 
   -- a period ends at the place, where a unit begins the next
-  pub IsCutUpTo-period : ((d : Option Shown) → begins_period (get_or units at d) ≡ true) → (room : ℕ) → IsCutUpTo units at (at + 1) (more room)
-  IsCutUpTo-period begins room = record {
+  pub IsCutUpTo-period : ((d : Option Shown) → begins_period (get_or units at d) ≡ true) → (spare : ℕ) → IsCutUpTo units at (at + 1) (more spare)
+  IsCutUpTo-period begins spare = record {
     ordered = omega arith;
-    units_are = units_more room;
-    periods_are = periods_more room;
+    units_are = units_more spare;
+    periods_are = periods_more spare;
     inside = λ k d from below. absurd (omega arith);
     begins = λ _ d. begins d;
   }
@@ -98,11 +98,11 @@ module _ (units : List (Option Shown)) (start at : ℕ) (periods : List PeriodVa
   cut_all : IsCutUpTo units start (length units) periods
   cut_all = subst (λ n. IsCutUpTo units start n periods) (sym end) cut
 
-  pub periods_last : (room : ℕ) → start < length units → ArePeriods (periods ++ record { units = slice_range units start (length units); room = room } ∷ [])
-  periods_last room some = periods_more units start (length units) periods cut_all some (omega arith) room
+  pub periods_last : (spare : ℕ) → start < length units → ArePeriods (periods ++ record { units = slice_range units start (length units); spare = spare } ∷ [])
+  periods_last spare some = periods_more units start (length units) periods cut_all some (omega arith) spare
 
-  pub units_last : (room : ℕ) → start < length units → units_of (periods ++ record { units = slice_range units start (length units); room = room } ∷ []) ≡ units
-  units_last room some = units_more units start (length units) periods cut_all some (omega arith) room ∙ take_all (length units) units (omega arith)
+  pub units_last : (spare : ℕ) → start < length units → units_of (periods ++ record { units = slice_range units start (length units); spare = spare } ∷ []) ≡ units
+  units_last spare some = units_more units start (length units) periods cut_all some (omega arith) spare ∙ take_all (length units) units (omega arith)
 
   pub units_all : length units ≤ start → units_of periods ≡ units
   units_all none = cut.units_are ∙ take_all start units none

@@ -11,7 +11,7 @@ use Rattle.output_order.specs.declared.counting.Count.{Count}
 use Rattle.output_order.specs.Shown.{shown_of}
 use Rattle.output_order.specs.OrderKeys.{is_first, order_keys}
 use Rattle.output_order.specs.Periods.{PeriodValue, units_of, valid_in, IsPeriod, IsBegun, ArePeriods}
-use Rattle.output_order.specs.Kept.{count_at, AreCounted}
+use Rattle.output_order.specs.PeriodLists.{count_at, AreCounted}
 use Rattle.output_order.specs.Bounds.{period_size}
 use Rattle.output_order.specs.Places.{IsFound}
 use Rattle.output_order.proofs.Starts.{units_parts, units_more, count_more}

@@ -61,8 +61,8 @@ module _ (outcomes : List Outcome) (sorted : List Key) (order : AreInOrder outco
     shown_more : (place : ℕ) (b : Bool) → (key.place == place) ≡ b → shown_at (count + 1) place ≡ (shown_at count place || b)
     shown_more place b is = list_any_more (λ one. one.place == place) sorted count d here ∙ ap (λ b. shown_at count place || b) is
 
-    pub place_found : (room : ℕ) → room ≡ length found → key.place < room
-    place_found room is = omega (arith, placed.length_is, place_within count d here)
+    pub place_found : (spare : ℕ) → spare ≡ length found → key.place < spare
+    place_found spare is = omega (arith, placed.length_is, place_within count d here)
 
     at_key : get_or (set found key.place (Some count)) key.place None ≡ position_at outcomes key.place
     at_key = get_or-set_same found key.place (Some count) None (place_found (length found) refl) ∙ sym (position_is count d here)

@@ -1,4 +1,4 @@
--- The periods that a change of a stretch of units touches, and those after it.
+-- The periods that a change of a range of units touches, and those after it.
 use Rattle.std.proofs.Common.{◌≡◌, ℕ, suc, zero, ◌+◌, ◌-◌, ◌<◌, ◌≤◌, ◌^◌, min, max, ⊎_elim, Option, None, option_map, unwrap_or, List, [], ◌∷◌, ◌++◌, length, take, drop, get_or, slice_get, All, refl, sym, ap, ◌∙◌, arith}
 use Rattle.std.proofs.lemmas.Bool.{cases_lt}
 use Rattle.std.proofs.lemmas.List.{append_assoc, take_all, take-append-drop, take-take, drop-take, drop-drop, drop_at, length-append, length-drop, length-take-le, take-append-le, drop-append-le}
@@ -8,7 +8,7 @@ use Rattle.std.specs.List.{AllWithin, slice_range}
 use Rattle.output_order.specs.declared.shown.Shown.{Shown}
 use Rattle.output_order.specs.declared.counting.Count.{Count}
 use Rattle.output_order.specs.Periods.{PeriodValue, units_of, IsPeriod, IsBegun, ArePeriods, spliced}
-use Rattle.output_order.specs.Kept.{AreCounted, Change, changed, IsSplice}
+use Rattle.output_order.specs.PeriodLists.{AreCounted, Change, changed, IsSplice}
 use Rattle.output_order.specs.Places.{IsTouched}
 use Rattle.output_order.proofs.Starts.{units_of-append, units_parts}
 use Rattle.output_order.proofs.Finds.{IsBegun-units}

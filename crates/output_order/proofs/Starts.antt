@@ -7,7 +7,7 @@ use Rattle.std.proofs.lemmas.List.Sums.{sum_by-append, count_by-le-length}
 use Rattle.std.specs.List.Sorted.{IsNonDecreasingBy}
 use Rattle.output_order.specs.declared.counting.Count.{Count}
 use Rattle.output_order.specs.Periods.{PeriodValue, units_of, valid_in}
-use Rattle.output_order.specs.Kept.{count_at, AreCounted}
+use Rattle.output_order.specs.PeriodLists.{count_at, AreCounted}
 
 pub units_of-append : (periods more : List PeriodValue) → units_of (periods ++ more) ≡ units_of periods ++ units_of more
 units_of-append periods more = flat_map-append (λ period. period.units) periods more

@@ -3,6 +3,6 @@ pub mod Shown
 pub mod OrderKeys
 pub mod Periods
 pub mod InPlace
-pub mod Kept
+pub mod PeriodLists
 pub mod Bounds
 pub mod Places

@@ -8,7 +8,7 @@ use Rattle.output_order.specs.Shown.{begins_period}
 -- what is kept of a period: its units, and for how many more there is room
 pub record PeriodValue : Type 0 where
   pub units : List (Option Shown)
-  pub room : ℕ
+  pub spare : ℕ
 
 -- the units of the periods, one period after the other
 abbrev pub units_of : List PeriodValue → List (Option Shown)

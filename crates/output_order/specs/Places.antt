@@ -4,7 +4,7 @@ use Rattle.output_order.specs.declared.shown.Shown.{Shown}
 use Rattle.output_order.specs.declared.touching.Touched.{Touched}
 use Rattle.output_order.specs.Shown.{begins_period}
 use Rattle.output_order.specs.Periods.{PeriodValue, units_of}
-use Rattle.output_order.specs.Kept.{Change, count_at}
+use Rattle.output_order.specs.PeriodLists.{Change, count_at}
 
 -- the unit at a place stands in this period
 pub record IsFound (periods : List PeriodValue) (place at : ℕ) : Type 0 where
@@ -33,7 +33,7 @@ pub record IsInside (periods : List PeriodValue) (at low high : ℕ) (units : Li
   pub kept : length (units_of (take at periods)) < low
   pub upto : high ≤ length (units_of (take (at + 1) periods))
   pub few : length units ≤ 32
-  pub room : (d : PeriodValue) → length units ≤ (slice_index_or periods at d).room + (high - low)
+  pub spare : (d : PeriodValue) → length units ≤ (slice_index_or periods at d).spare + (high - low)
   pub none : All (λ unit. begins_period unit ≡ false) units
 
 -- so they can inside the one period that is touched
@@ -41,7 +41,7 @@ pub record IsTouchedInside (periods : List PeriodValue) (touched : Touched) (low
   pub one : touched.past ≡ touched.first + 1
   pub kept : touched.start < low
   pub few : length units ≤ 32
-  pub room : (d : PeriodValue) → length units ≤ (slice_index_or periods touched.first d).room + (high - low)
+  pub spare : (d : PeriodValue) → length units ≤ (slice_index_or periods touched.first d).spare + (high - low)
   pub none : All (λ unit. begins_period unit ≡ false) units
 
 -- that change

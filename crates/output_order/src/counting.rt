@@ -5,7 +5,7 @@ ghost use Rattle.std.specs.Vec.{vec_capacity};
 ghost use Rattle.std.specs.List.{AllWithin};
 ghost use Rattle.std.specs.List.Sorted.{IsNonDecreasingBy};
 ghost use Rattle.output_order.specs.Periods.{units_of};
-ghost use Rattle.output_order.specs.Kept.{AreCounted, count_at};
+ghost use Rattle.output_order.specs.PeriodLists.{AreCounted, count_at};
 
 use crate::period::Period;
 
@@ -45,7 +45,7 @@ pub(crate) fn count_on(periods: &[Period], counts: &mut Vec<Count>)
     requires counted { AreCounted periods.now (vec_len counts.old) counts.old.items }
     requires within { vec_len counts.old ≤ length periods.now }
     requires fits { length (units_of periods.now) < 2 ^ 64 }
-    requires room { length periods.now ≤ vec_capacity counts.old }
+    requires spare { length periods.now ≤ vec_capacity counts.old }
     ensures counted { AreCounted periods.now (length periods.now) counts.new.items }
     ensures capacity { vec_capacity counts.new ≡ vec_capacity counts.old }
 {

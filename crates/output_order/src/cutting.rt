@@ -16,7 +16,7 @@ fn is_cut(start: usize, at: usize, unit: Option<Shown>) -> bool
 }
 
 /// For how many more units the last of the periods made has room: half as many as it has, and some.
-fn room_behind(units: usize) -> usize
+fn spare_behind(units: usize) -> usize
     ensures { result ≡ units / 2 + 8 }
 {
     units / 2 + 8
@@ -39,7 +39,7 @@ pub(crate) fn periods_of(alloc: Global, units: &[Option<Shown>]) -> Result<Vec<P
     }
     if start < units.len() {
         let last = &units[start..];
-        periods.push(Period::new(alloc, last, room_behind(last.len()))?)?;
+        periods.push(Period::new(alloc, last, spare_behind(last.len()))?)?;
     }
     Ok(periods)
 }

@@ -74,7 +74,7 @@ pub(crate) fn keep(keys: &mut Vec<OrderKey>, units: usize, low: usize, high: usi
 /// Puts a key among others, which stand in output order.
 fn insert(keys: &mut Vec<OrderKey>, key: OrderKey)
     requires sorted { IsSortedBy is_first keys.old.items }
-    requires room { vec_len keys.old < vec_capacity keys.old }
+    requires spare { vec_len keys.old < vec_capacity keys.old }
     ensures sorted { IsSortedBy is_first keys.new.items }
     ensures permutation { IsPermutation (key ∷ keys.old.items) keys.new.items }
     ensures capacity { vec_capacity keys.old ≤ vec_capacity keys.new }
@@ -90,7 +90,7 @@ fn insert(keys: &mut Vec<OrderKey>, key: OrderKey)
 /// output order.
 pub(crate) fn put_in(keys: &mut Vec<OrderKey>, place: usize, units: &[Option<Shown>])
     requires sorted { IsSortedBy is_first keys.old.items }
-    requires room { vec_len keys.old + length units.now ≤ vec_capacity keys.old }
+    requires spare { vec_len keys.old + length units.now ≤ vec_capacity keys.old }
     requires fits { place + length units.now < 2 ^ 64 }
     ensures sorted { IsSortedBy is_first keys.new.items }
     ensures permutation { IsPermutation

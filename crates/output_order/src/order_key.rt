@@ -1,9 +1,12 @@
 //! The keys by which the units of a period are shown.
 
-ghost use Rattle.std.specs.Prelude.{◌≡◌, ◌≤◌, length, IfOk};
+ghost use Rattle.std.specs.Prelude.{◌≡◌, ◌≤◌, length, IfOk, ◌+◌, ◌<◌, ◌^◌, count_by};
 ghost use Rattle.std.specs.Vec.{vec_capacity};
-ghost use Rattle.output_order.specs.OrderKeys.{order_keys};
+ghost use Rattle.output_order.specs.OrderKeys.{order_keys, is_first};
+ghost use Rattle.std.specs.List.Sorted.{IsSortedBy};
+ghost use Rattle.output_order.specs.Bounds.{IsSearched};
 
+use crate::comparisons::Comparisons;
 use crate::shown::Shown;
 use std::alloc::{AllocError, Global};
 
@@ -20,12 +23,12 @@ pub(crate) struct OrderKey {
 pub(crate) fn order_keys(
     alloc: Global,
     units: &[Option<Shown>],
-    room: usize,
+    spare: usize,
 ) -> Result<Vec<OrderKey>, AllocError>
     ensures keys { IfOk result (λ keys. keys.items ≡ order_keys units.now) }
-    ensures room { IfOk result (λ keys. room ≤ vec_capacity keys) }
+    ensures spare { IfOk result (λ keys. spare ≤ vec_capacity keys) }
 {
-    let mut keys = Vec::with_capacity(alloc, room)?;
+    let mut keys = Vec::with_capacity(alloc, spare)?;
     for (offset, unit) in units.iter().enumerate() {
         let Some(shown) = unit else {
             continue;
@@ -36,4 +39,35 @@ pub(crate) fn order_keys(
         })?;
     }
     Ok(keys)
+}
+
+/// Whether the first of two units is shown first.
+fn is_shown_first(one: OrderKey, other: OrderKey, comparisons: &mut Comparisons) -> bool
+    requires { comparisons.old + 1 < 2 ^ 64 }
+    ensures answer { result ≡ is_first one other }
+    ensures counted { comparisons.new ≡ comparisons.old + 1 }
+{
+    comparisons.raise();
+    one < other
+}
+
+/// How many of the keys, which stand in output order, are shown before one.
+pub(crate) fn rank(sorted: &[OrderKey], key: OrderKey, comparisons: &mut Comparisons) -> usize
+    requires sorted { IsSortedBy is_first sorted.now }
+    requires spare { comparisons.old + length sorted.now < 2 ^ 64 }
+    ensures rank { result ≡ count_by (λ other. is_first other key) sorted.now }
+    ensures few { comparisons.new ≤ comparisons.old + length sorted.now }
+    ensures searched { IsSearched (length sorted.now) comparisons.old comparisons.new }
+{
+    let mut low = 0;
+    let mut high = sorted.len();
+    while low < high {
+        let middle = low + (high - low) / 2;
+        if is_shown_first(sorted[middle], key, comparisons) {
+            low = middle + 1;
+        } else {
+            high = middle;
+        }
+    }
+    low
 }

@@ -2,16 +2,15 @@
 
 ghost use Rattle.std.specs.Prelude.{◌≡◌, ◌+◌, ◌<◌, ◌≤◌, ◌^◌, None, length, count_by, slice_index_or, IfOk};
 ghost use Rattle.output_order.specs.Bounds.{IsSearched};
-ghost use Rattle.output_order.specs.Kept.{FitsInside, changed_inside};
+ghost use Rattle.output_order.specs.PeriodLists.{FitsInside, changed_inside};
 ghost use Rattle.output_order.specs.OrderKeys.{order_keys, is_first};
 ghost use Rattle.output_order.specs.Periods.{valid_in};
 
 use crate::comparisons::Comparisons;
 use crate::in_place::{keep, put_in};
-use crate::inside::Inside;
-use crate::order_key::{OrderKey, order_keys};
-use crate::ranking::rank;
+use crate::order_key::{OrderKey, order_keys, rank};
 use crate::shown::Shown;
+use crate::splice::Inside;
 use h264_types::base::replace_range;
 use std::alloc::{AllocError, Global};
 use std::marker::Model;
@@ -21,18 +20,18 @@ use std::marker::Model;
 pub(crate) struct Period {
     units: Vec<Option<Shown>>,
     sorted: Vec<OrderKey>,
-    room: usize,
+    spare: usize,
 }
 
 impl Model for Period {
-    ghost use Rattle.output_order.specs.Kept.{IsPeriodKept};
+    ghost use Rattle.output_order.specs.PeriodLists.{IsPeriodSound};
     ghost use Rattle.output_order.specs.Periods.{PeriodValue};
 
     ghost Value = { PeriodValue };
 
-    ghost view = { λ period. record { units = period.units.items; room = period.room } };
+    ghost view = { λ period. record { units = period.units.items; spare = period.spare } };
 
-    ghost invariant = { λ period. IsPeriodKept period.units period.sorted period.room };
+    ghost invariant = { λ period. IsPeriodSound period.units period.sorted period.spare };
 }
 
 impl Period {
@@ -40,12 +39,12 @@ impl Period {
     pub(crate) fn new(
         alloc: Global,
         units: &[Option<Shown>],
-        room: usize,
+        spare: usize,
     ) -> Result<Period, AllocError>
-        requires { length units.now + room < 2 ^ 64 }
-        ensures { IfOk result (λ period. period ≡ record { units = units.now; room = room }) }
+        requires { length units.now + spare < 2 ^ 64 }
+        ensures { IfOk result (λ period. period ≡ record { units = units.now; spare = spare }) }
     {
-        let all = units.len() + room;
+        let all = units.len() + spare;
         let mut sorted = order_keys(alloc, units, all)?;
         sorted.sort_unstable();
         let mut own = Vec::with_capacity(alloc, all)?;
@@ -53,7 +52,7 @@ impl Period {
         Ok(Period {
             units: own,
             sorted,
-            room,
+            spare,
         })
     }
 
@@ -65,10 +64,10 @@ impl Period {
     }
 
     /// For how many more units there is room.
-    pub(crate) fn room(&self) -> usize
-        ensures { result ≡ self.now.room }
+    pub(crate) fn spare(&self) -> usize
+        ensures { result ≡ self.now.spare }
     {
-        self.room
+        self.spare
     }
 
     /// What is shown of the unit at an offset.
@@ -106,6 +105,6 @@ impl Period {
         keep(&mut self.sorted, self.units.len(), low, high, count);
         put_in(&mut self.sorted, low, &units);
         replace_range(&mut self.units, low, high, units);
-        self.room = self.room + (high - low) - count;
+        self.spare = self.spare + (high - low) - count;
     }
 }

@@ -6,18 +6,17 @@ ghost use Rattle.unit_outcomes.specs.declared.outcome.Outcome.{Outcome};
 ghost use Rattle.output_order.specs.OutputOrder.{position_at};
 ghost use Rattle.output_order.specs.Shown.{shown_of};
 ghost use Rattle.output_order.specs.Periods.{units_of, spliced, ArePeriods};
-ghost use Rattle.output_order.specs.Kept.{changed, last_changed, FitsLast, IsChange, IsSplice};
+ghost use Rattle.output_order.specs.PeriodLists.{changed, last_changed, FitsLast, IsChange, IsSplice};
 ghost use Rattle.output_order.specs.Bounds.{IsSearched, period_size};
 ghost use Rattle.output_order.specs.Places.{IsFound, IsTouched, IsInside, IsTouchedInside, change_inside};
 
 use crate::comparisons::Comparisons;
 use crate::counting::{Count, count_on, start_of, started_before};
 use crate::cutting::periods_of;
-use crate::inside::Inside;
 use crate::order_key::OrderKey;
 use crate::period::Period;
 use crate::shown::Shown;
-use crate::splice::Splice;
+use crate::splice::{Inside, Splice};
 use crate::touching::{Touched, none_begins, units_after};
 use h264_types::base::replace_range;
 use std::alloc::{AllocError, Global};
@@ -36,7 +35,7 @@ const MOST_INSIDE: usize = 32;
 pub struct Periods {
     periods: Vec<Period>,
     counts: Vec<Count>,
-    room: usize,
+    spare: usize,
 }
 
 // By hand, so that whoever drops one is proved over one call.
@@ -45,30 +44,30 @@ impl Drop for Periods {
         let Periods {
             periods: _,
             counts: _,
-            room: _,
+            spare: _,
         } = self;
     }
 }
 
 impl Model for Periods {
-    ghost use Rattle.output_order.specs.Kept.{Kept, IsKept};
+    ghost use Rattle.output_order.specs.PeriodLists.{PeriodsValue, IsSound};
 
-    ghost Value = { Kept };
+    ghost Value = { PeriodsValue };
 
-    ghost view = { λ p. record { periods = p.periods.items; room = p.room } };
+    ghost view = { λ p. record { periods = p.periods.items; spare = p.spare } };
 
-    ghost invariant = { λ p. IsKept p.periods p.counts p.room };
+    ghost invariant = { λ p. IsSound p.periods p.counts p.spare };
 }
 
 impl Periods {
     /// Those of a stream without a unit.
     pub fn new(alloc: Global) -> Periods
-        ensures { result ≡ record { periods = []; room = 0 } }
+        ensures { result ≡ record { periods = []; spare = 0 } }
     {
         Periods {
             periods: Vec::new(alloc),
             counts: Vec::new(alloc),
-            room: 0,
+            spare: 0,
         }
     }
 
@@ -86,7 +85,7 @@ impl Periods {
     /// isn't valid. Each pair of units that is compared is counted. Takes no memory.
     pub fn position_in(&self, place: usize, comparisons: &mut Comparisons) -> Option<usize>
         requires within { place < length (units_of self.now.periods) }
-        requires room { comparisons.old + length (units_of self.now.periods) < 2 ^ 64 }
+        requires spare { comparisons.old + length (units_of self.now.periods) < 2 ^ 64 }
         ensures position { (outcomes : List Outcome)
             → map shown_of outcomes ≡ units_of self.now.periods
             → result ≡ position_at outcomes place }
@@ -141,26 +140,26 @@ impl Periods {
 
     /// Makes room for this many more periods.
     pub fn reserve(&mut self, n: usize) -> Result<(), AllocError>
-        ensures ok { OnOk result (self.new ≡ record self.old { room = max self.old.room n }) }
+        ensures ok { OnOk result (self.new ≡ record self.old { spare = max self.old.spare n }) }
         ensures err { OnErr result (self.new ≡ self.old) }
-        ensures there { n ≤ self.old.room → IsOk result }
+        ensures there { n ≤ self.old.spare → IsOk result }
     {
-        if n <= self.room {
+        if n <= self.spare {
             return Ok(());
         }
         self.periods.reserve(n)?;
         self.counts.reserve(n)?;
-        self.room = n;
+        self.spare = n;
         Ok(())
     }
 
     /// Makes a change that was prepared, for which there is room. Takes no memory.
     pub fn commit(&mut self, splice: Splice)
         requires can { IsChange splice self.old.periods }
-        requires room { length splice.periods ≤ self.old.room }
+        requires spare { length splice.periods ≤ self.old.spare }
         ensures { self.new ≡ record {
           periods = changed splice self.old.periods;
-          room = self.old.room - length splice.periods;
+          spare = self.old.spare - length splice.periods;
         } }
     {
         let first = splice.first;
@@ -168,7 +167,7 @@ impl Periods {
         put(&mut self.periods, splice);
         self.counts.truncate(first);
         count_on(&self.periods, &mut self.counts);
-        self.room -= count;
+        self.spare -= count;
     }
 
     /// Puts these units in the place of those between two places.
@@ -227,7 +226,7 @@ impl Periods {
         touched.past - touched.first == 1
             && touched.start < low
             && units.len() <= MOST_INSIDE
-            && units.len().saturating_sub(high - low) <= self.periods[touched.first].room()
+            && units.len().saturating_sub(high - low) <= self.periods[touched.first].spare()
             && none_begins(units)
     }
 
@@ -295,7 +294,7 @@ fn splice_inside(
 /// Makes a change of periods, for which there is room.
 fn put(periods: &mut Vec<Period>, splice: Splice)
     requires can { IsChange splice periods.old.items }
-    requires room { vec_len periods.old + length splice.periods ≤ vec_capacity periods.old }
+    requires spare { vec_len periods.old + length splice.periods ≤ vec_capacity periods.old }
     ensures items { periods.new.items ≡ changed splice periods.old.items }
     ensures capacity { vec_capacity periods.old ≤ vec_capacity periods.new }
 {

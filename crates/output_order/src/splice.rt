@@ -2,9 +2,29 @@
 
 ghost use Rattle.std.specs.Prelude.{◌≡◌, length};
 
-use crate::inside::Inside;
 use crate::period::Period;
+use crate::shown::Shown;
 use std::marker::Model;
+
+/// Units that are to stand between two places of a period.
+#[derive(Debug, Drop)]
+pub(crate) struct Inside {
+    pub(crate) low: usize,
+    pub(crate) high: usize,
+    pub(crate) units: Vec<Option<Shown>>,
+}
+
+impl Model for Inside {
+    ghost use Rattle.output_order.specs.PeriodLists.{InsideValue};
+
+    ghost Value = { InsideValue };
+
+    ghost view = { λ inside. record {
+      low = inside.low;
+      high = inside.high;
+      units = inside.units.items;
+    } };
+}
 
 /// Periods that are to take the place of others, and units that are to stand inside the one before
 /// those. They were made where memory could still be refused.
@@ -17,7 +37,7 @@ pub struct Splice {
 }
 
 impl Model for Splice {
-    ghost use Rattle.output_order.specs.Kept.{Change};
+    ghost use Rattle.output_order.specs.PeriodLists.{Change};
 
     ghost Value = { Change };
 

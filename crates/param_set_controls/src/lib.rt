@@ -6,18 +6,13 @@
 //! is made, member by member as `words` writes them.
 #![tactic(auto)]
 
-mod digest;
-mod pps_control;
-mod scaling_matrix_control;
 mod set_controls;
-mod sps_control;
 mod v4l2_ctrl_h264_pps;
 mod v4l2_ctrl_h264_scaling_matrix;
 mod v4l2_ctrl_h264_sps;
 pub mod words;
 
-pub use digest::{put_sets, sets_form};
-pub use set_controls::SetControls;
+pub use set_controls::{SetControls, put_sets, sets_form};
 pub use v4l2_ctrl_h264_pps::{PpsFlags, V4l2CtrlH264Pps};
 pub use v4l2_ctrl_h264_scaling_matrix::V4l2CtrlH264ScalingMatrix;
 pub use v4l2_ctrl_h264_sps::{SpsFlags, V4l2CtrlH264Sps};

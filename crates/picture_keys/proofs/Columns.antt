@@ -4,7 +4,7 @@ use Rattle.std.proofs.lemmas.Grind.{common_steps}
 use Rattle.std.specs.List.{zip}
 use Rattle.std.specs.Ordering.{nat_cmp, is_eq}
 use Rattle.std.specs.BTreeMap.{is_at}
-use Rattle.h264_controls.specs.declared.work.Work.{Work}
+use Rattle.h264_controls.specs.declared.request.RequestBody.{RequestBody}
 use Rattle.unit_outcomes.specs.declared.outcome.Outcome.{Outcome}
 use Rattle.decode_jobs.specs.KeyMaps.{KeyMap}
 use Rattle.decode_jobs.specs.Keys.{Key}
@@ -125,7 +125,7 @@ module _ (ids : List ℕ) (found : List (Option ℕ)) (at id one : ℕ) (number 
         ∙ with_none id one number (numbers_over [] (take (at - 1) ids) (take (at - 1) found)) none)
 
 -- numbers that stand for what is known go on doing so over units whose numbers stand for their keys
-module _ (keys : KeyMap (List Work)) where
+module _ (keys : KeyMap (List RequestBody)) where
   pub numbered_over : (numbers : Numbers) (known : Known) (ids : List ℕ) (found : List (Option ℕ)) (outcomes : List Outcome)
       → AreNumbered keys numbers known → AllStandFor keys found (keys_after known (zip ids outcomes))
       → length ids ≡ length outcomes → AreNumbered keys (numbers_over numbers ids found) (known_after known (zip ids outcomes))

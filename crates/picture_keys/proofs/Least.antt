@@ -1,4 +1,4 @@
--- The least stretch, with units more.
+-- The least range, with units more.
 use Rattle.std.proofs.Common.{◌≡◌, refl, ap, sym, ◌∙◌, subst, ℕ, zero, suc, ◌+◌, ◌-◌, ◌<◌, ◌≤◌, ◌⊎◌, inl, inr, false, eqb, List, [], ◌∷◌, ◌++◌, length, Some, arith, take, append_assoc}
 use Rattle.std.specs.Prelude.{Contains, slice_get}
 use Rattle.std.proofs.lemmas.Bool.{cases_lt}
@@ -6,10 +6,10 @@ use Rattle.std.proofs.lemmas.List.{length-append, length-take-le, take_more}
 use Rattle.std.proofs.lemmas.Option.{get_or_from_slice_get, same_Some, slice_get_within}
 use Rattle.picture_keys.specs.declared.changed_units.changed.Changed.{Changed}
 use Rattle.picture_keys.specs.Units.{ComparedUnit}
-use Rattle.picture_keys.specs.Stretches.{IsChanged, IsChangedAt, IsLeast, no_units, with_unit}
+use Rattle.picture_keys.specs.Ranges.{IsChanged, IsChangedAt, IsLeast, no_units, with_unit}
 use Rattle.picture_keys.proofs.Lists.{at_front, at_behind, contained}
 
--- a stretch of units goes up to one that stands behind it
+-- a range of units goes up to one that stands behind it
 pub with_some : (from count at : ℕ) → 0 < count
     → with_unit (record { from = from; count = count }) at ≡ record { from = from; count = at - from + 1 }
 with_some from count at some = let no : eqb count 0 ≡ false = grind (arith, some) in rw no refl

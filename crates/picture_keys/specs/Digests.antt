@@ -23,7 +23,7 @@ pub record IsHashed (units : List (List ℕ)) (digest : List ℕ) (hashed : ℕ)
 
 -- the bytes of the slices of requests
 abbrev pub bytes_of : List Request → List (List ℕ)
-bytes_of requests = map (λ work. work.bytes) (map (λ request. request.work) requests)
+bytes_of requests = map (λ body. body.bytes) (map (λ request. request.body) requests)
 
 -- the digest is that of the slices of an outcome's requests, if it has any
 abbrev pub IsDigestOf : Outcome → List ℕ → Type 0

@@ -9,4 +9,4 @@ pub mod Adding
 pub mod Referred
 pub mod Messages
 pub mod Units
-pub mod Stretches
+pub mod Ranges

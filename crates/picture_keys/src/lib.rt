@@ -1,8 +1,8 @@
 //! Keys of the pictures of a stream: what each is made of, down to the pictures that refer to none.
 //!
-//! The key of a valid unit is the tree of its slices' works with, at each entry of their reference
+//! The key of a valid unit is the tree of its slices' bodies with, at each entry of their reference
 //! lists, the key of the picture that the entry names; timestamps are no part of it. dep_keys keeps
-//! such trees under numbers: here are the works that stand in its nodes, the node of a unit, and
+//! such trees under numbers: here are the bodies that stand in its nodes, the node of a unit, and
 //! the law that what a decoder makes for a unit is a picture of its key.
 //!
 //! A unit's bytes are hashed once, when the unit is read: `HashedUnit` keeps the digest and how
@@ -21,9 +21,9 @@ mod laws;
 mod named;
 mod nodes;
 mod numbers;
+mod request_bodies;
 mod unit_keys;
 mod units;
-mod works;
 
 pub use digest::SlicesDigest;
 pub use hashed_bytes::HashedBytes;
@@ -33,6 +33,6 @@ pub use laws::{node_is_that_of_its_key, picture_is_of_its_key};
 pub use named::units_named;
 pub use nodes::node_of;
 pub use numbers::KeyNumbers;
+pub use request_bodies::RequestBodies;
 pub use unit_keys::UnitKeys;
 pub use units::hash_units;
-pub use works::Works;

@@ -3,13 +3,13 @@
 ghost use Rattle.std.specs.Prelude.{◌≡◌, IfOk};
 ghost use Rattle.picture_keys.specs.Digests.{bytes_of};
 ghost use Rattle.picture_keys.specs.SliceBytes.{slices_digest};
-ghost use Rattle.decode_jobs.specs.Keys.{works_of};
+ghost use Rattle.decode_jobs.specs.Keys.{bodies_of};
 ghost use Rattle.picture_keys.specs.Numbered.{number_named, numbers_named};
 
 use crate::SlicesDigest;
 use crate::named::units_named;
 use crate::numbers::KeyNumbers;
-use crate::works::Works;
+use crate::request_bodies::RequestBodies;
 use decode_jobs::dep_keys::{KeyId, Node};
 use h264_controls::Request;
 use h264_types::pictures::AuId;
@@ -23,18 +23,18 @@ pub fn node_of(
     numbers: &mut KeyNumbers<'_>,
     requests: &Requests,
     digest: SlicesDigest,
-) -> Result<Node<Works>, AllocError>
+) -> Result<Node<RequestBodies>, AllocError>
     requires { digest.bytes ≡ slices_digest (bytes_of requests.now) }
     ensures ok { IfOk result (λ node. node
         ≡ record {
-          work = works_of requests.now;
+          content = bodies_of requests.now;
           entries = numbers_named numbers.old requests.now;
         }) }
     ensures same { numbers.new ≡ numbers.old }
 {
-    let works = Works::of(alloc, requests, digest)?;
+    let bodies = RequestBodies::of(alloc, requests, digest)?;
     let entries = entries_of(alloc, numbers, requests.as_slice())?;
-    Ok(Node::new(works, entries))
+    Ok(Node::new(bodies, entries))
 }
 
 /// The numbers at the entries of the requests' lists.

@@ -18,7 +18,7 @@ use std::marker::Model;
 #[derive(Debug, Drop)]
 pub struct KeyNumbers<'a> {
     ids: &'a [AuId],
-    found: &'a [Option<KeyId>],
+    numbers: &'a [Option<KeyId>],
     // What the columns have of the ids that were looked for in them.
     seen: BTreeMap<u32, Option<KeyId>>,
     later: BTreeMap<u32, KeyId>,
@@ -30,10 +30,10 @@ impl<'a> Model for KeyNumbers<'a> {
 
     ghost Value = { Numbers };
 
-    ghost view = { λ keys. keys.later.entries ++ numbers_over [] keys.ids.now keys.found.now };
+    ghost view = { λ keys. keys.later.entries ++ numbers_over [] keys.ids.now keys.numbers.now };
 
     ghost invariant = { λ keys.
-        AreSeen keys.seen.entries (numbers_over [] keys.ids.now keys.found.now) };
+        AreSeen keys.seen.entries (numbers_over [] keys.ids.now keys.numbers.now) };
 }
 
 impl<'a> KeyNumbers<'a> {
@@ -45,12 +45,12 @@ impl<'a> KeyNumbers<'a> {
     }
 
     /// Units with these ids, whose keys have these numbers, nothing for one that isn't valid.
-    pub fn over(alloc: Global, ids: &'a [AuId], found: &'a [Option<KeyId>]) -> KeyNumbers<'a>
-        ensures { result ≡ numbers_over [] ids.now found.now }
+    pub fn over(alloc: Global, ids: &'a [AuId], numbers: &'a [Option<KeyId>]) -> KeyNumbers<'a>
+        ensures { result ≡ numbers_over [] ids.now numbers.now }
     {
         KeyNumbers {
             ids,
-            found,
+            numbers,
             seen: BTreeMap::new(alloc),
             later: BTreeMap::new(alloc),
         }
@@ -64,7 +64,7 @@ impl<'a> KeyNumbers<'a> {
     {
         match self.later.get(&id.number()) {
             Some(key) => Ok(Some(*key)),
-            None => seen_or_among(&mut self.seen, self.ids, self.found, id),
+            None => seen_or_among(&mut self.seen, self.ids, self.numbers, id),
         }
     }
 
@@ -95,17 +95,17 @@ impl<'a> KeyNumbers<'a> {
 fn seen_or_among(
     seen: &mut BTreeMap<u32, Option<KeyId>>,
     ids: &[AuId],
-    found: &[Option<KeyId>],
+    numbers: &[Option<KeyId>],
     id: AuId,
 ) -> Result<Option<KeyId>, AllocError>
-    requires { AreSeen seen.old.entries (numbers_over [] ids.now found.now) }
+    requires { AreSeen seen.old.entries (numbers_over [] ids.now numbers.now) }
     ensures ok { IfOk result (λ number. number
-        ≡ number_at (numbers_over [] ids.now found.now) id) }
-    ensures seen { AreSeen seen.new.entries (numbers_over [] ids.now found.now) }
+        ≡ number_at (numbers_over [] ids.now numbers.now) id) }
+    ensures seen { AreSeen seen.new.entries (numbers_over [] ids.now numbers.now) }
 {
     match seen.get(&id.number()).copied() {
         Some(number) => Ok(number),
-        None => look(seen, ids, found, id),
+        None => look(seen, ids, numbers, id),
     }
 }
 
@@ -113,15 +113,15 @@ fn seen_or_among(
 fn look(
     seen: &mut BTreeMap<u32, Option<KeyId>>,
     ids: &[AuId],
-    found: &[Option<KeyId>],
+    numbers: &[Option<KeyId>],
     id: AuId,
 ) -> Result<Option<KeyId>, AllocError>
-    requires { AreSeen seen.old.entries (numbers_over [] ids.now found.now) }
+    requires { AreSeen seen.old.entries (numbers_over [] ids.now numbers.now) }
     ensures ok { IfOk result (λ number. number
-        ≡ number_at (numbers_over [] ids.now found.now) id) }
-    ensures seen { AreSeen seen.new.entries (numbers_over [] ids.now found.now) }
+        ≡ number_at (numbers_over [] ids.now numbers.now) id) }
+    ensures seen { AreSeen seen.new.entries (numbers_over [] ids.now numbers.now) }
 {
-    match number_among(ids, found, id) {
+    match number_among(ids, numbers, id) {
         Some(key) => {
             see(seen, id, Some(key))?;
             Ok(Some(key))
@@ -149,13 +149,13 @@ fn see(
 }
 
 /// The number of the key of the last unit that has the id, among those that have a key.
-fn number_among(ids: &[AuId], found: &[Option<KeyId>], id: AuId) -> Option<KeyId>
-    ensures { result ≡ number_at (numbers_over [] ids.now found.now) id }
+fn number_among(ids: &[AuId], numbers: &[Option<KeyId>], id: AuId) -> Option<KeyId>
+    ensures { result ≡ number_at (numbers_over [] ids.now numbers.now) id }
 {
-    let mut at = ids.len().min(found.len());
+    let mut at = ids.len().min(numbers.len());
     while at > 0 {
         at -= 1;
-        let number = found[at];
+        let number = numbers[at];
         if ids[at] == id && number.is_some() {
             return number;
         }

@@ -1,7 +1,7 @@
 //! The keys of a stream's units, found one after the other.
 
 ghost use Rattle.std.specs.Prelude.{◌≡◌, ℕ, ◌==◌, List, [], ◌∷◌, ◌++◌, Some, IfOk, OnErr, OnOk, if◌then◌else◌};
-ghost use Rattle.h264_controls.specs.declared.work.Work.{Work};
+ghost use Rattle.h264_controls.specs.declared.request.RequestBody.{RequestBody};
 ghost use Rattle.unit_outcomes.specs.declared.outcome.Outcome.{Outcome as Becomes};
 ghost use Rattle.decode_jobs.specs.KeyMaps.{AreLive, Extends, IsKeyMap, KeyMap, tree_at, tree_of};
 ghost use Rattle.picture_keys.specs.Digests.{bytes_of};
@@ -13,7 +13,7 @@ ghost use Rattle.picture_keys.specs.Adding.{AddsAtMost, AddsAtMostKey, node_over
 
 use crate::nodes::node_of;
 use crate::numbers::KeyNumbers;
-use crate::works::Works;
+use crate::request_bodies::RequestBodies;
 use crate::{HashedOutcome, SlicesDigest};
 use decode_jobs::dep_keys::{Fingerprint, KeyId, Keys};
 use h264_types::pictures::AuId;
@@ -60,10 +60,10 @@ impl<'a> UnitKeys<'a> {
 
     /// Goes over one unit more. The key of a valid one is interned. Where memory runs out, the unit
     /// wasn't gone over, and may be again; its key may have been added, which then no unit has.
-    pub fn add<F: Fingerprint<Works>>(
+    pub fn add<F: Fingerprint<RequestBodies>>(
         &mut self,
         alloc: Global,
-        keys: &mut Keys<Works, F>,
+        keys: &mut Keys<RequestBodies, F>,
         id: AuId,
         outcome: &HashedOutcome,
     ) -> Result<(), AllocError>
@@ -103,10 +103,10 @@ impl<'a> UnitKeys<'a> {
 
 /// Interns the key of a unit and gives the unit its number, or nothing where it isn't valid. Where
 /// memory runs out, no unit is given one.
-fn number_of<F: Fingerprint<Works>>(
+fn number_of<F: Fingerprint<RequestBodies>>(
     alloc: Global,
     numbers: &mut KeyNumbers<'_>,
-    keys: &mut Keys<Works, F>,
+    keys: &mut Keys<RequestBodies, F>,
     id: AuId,
     outcome: &HashedOutcome,
 ) -> Result<Option<KeyId>, AllocError>
@@ -127,10 +127,10 @@ fn number_of<F: Fingerprint<Works>>(
 
 /// Interns the key of a unit's requests, and gives the unit its number. Where memory runs out, no
 /// unit is given one.
-fn intern<F: Fingerprint<Works>>(
+fn intern<F: Fingerprint<RequestBodies>>(
     alloc: Global,
     numbers: &mut KeyNumbers<'_>,
-    keys: &mut Keys<Works, F>,
+    keys: &mut Keys<RequestBodies, F>,
     id: AuId,
     requests: &Requests,
     digest: SlicesDigest,

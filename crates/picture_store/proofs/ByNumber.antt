@@ -12,7 +12,7 @@ use Rattle.held_pictures.proofs.Members.{All-from_contains, among_map}
 use Rattle.decode_jobs.specs.Jobs.{JobValue}
 use Rattle.picture_store.specs.declared.job_out.JobOut.{JobOut}
 use Rattle.picture_store.specs.Jobs.{IsSameJob, input_of, IsOut, LandsThere, AnswersLand, AnswersLandOf}
-use Rattle.picture_store.specs.Kept.{Trees, jobs_for}
+use Rattle.picture_store.specs.Stored.{Trees, jobs_for}
 use Rattle.picture_store.specs.Stores.{OutValue, StoreValue}
 use Rattle.picture_store.proofs.Landed.{got_at}
 use Rattle.picture_store.proofs.Viewed.{seen}

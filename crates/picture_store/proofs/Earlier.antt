@@ -3,21 +3,21 @@ use Rattle.std.proofs.Common.{◌≡◌, refl, sym, ap, ◌∙◌, subst, ℕ, �
 use Rattle.std.specs.Prelude.{option_and_then}
 use Rattle.std.specs.List.{zip}
 use Rattle.std.proofs.lemmas.Option.{none-some, same_Some}
-use Rattle.h264_controls.specs.declared.work.Work.{Work}
+use Rattle.h264_controls.specs.declared.request.RequestBody.{RequestBody}
 use Rattle.unit_outcomes.specs.declared.outcome.Outcome.{Outcome}
 use Rattle.decode_jobs.specs.KeyMaps.{IsKeyMap, entered, tree_at}
-use Rattle.decode_jobs.specs.Keys.{Key, named_by_all, tree_with, works_of}
+use Rattle.decode_jobs.specs.Keys.{Key, named_by_all, tree_with, bodies_of}
 use Rattle.picture_keys.specs.Known.{Known, key_at, key_of, known_after, keys_of}
 use Rattle.picture_keys.specs.Numbered.{AllStandFor}
 use Rattle.held_pictures.proofs.Lookups.{known_of}
 use Rattle.held_pictures.proofs.Standing.{number_of_key, number_there, stands_at, valid_of_found}
-use Rattle.picture_store.specs.Kept.{Trees}
+use Rattle.picture_store.specs.Stored.{Trees}
 use Rattle.picture_store.specs.Schedules.{IsEntryOf, RefersTo}
 
-module _ (known : Known) (works : List Work) (first : Key) where
+module _ (known : Known) (bodies : List RequestBody) (first : Key) where
   -- the key with the keys of these units at its entries
   abbrev key_with : List (Option ℕ) → Key
-  key_with units = tree_with works (map (λ unit. option_and_then (key_at known) unit) units)
+  key_with units = tree_with bodies (map (λ unit. option_and_then (key_at known) unit) units)
 
   by_key : (id : ℕ) (units : List (Option ℕ)) → (IsEntryOf first (key_with units) → (id : ℕ) × (key_at known id ≡ Some first))
       → (key : Option Key) → key_at known id ≡ key → IsEntryOf first (entered key (key_with units))
@@ -45,7 +45,7 @@ module _ (keys : Trees) (ids : List ℕ) (outcomes : List Outcome) (numbers : Li
       let known : Known = known_after [] (take at (zip ids outcomes)) in
       let same : tree ≡ key_of known valid.1.requests =
       same_Some tree (key_of known valid.1.requests) (sym tree_is ∙ valid.3) in
-      let named = entry_known known (works_of valid.1.requests) first (named_by_all valid.1.requests)
+      let named = entry_known known (bodies_of valid.1.requests) first (named_by_all valid.1.requests)
       (subst (IsEntryOf first) same among) in
       elim (known_of [] (zip ids outcomes) at named.0 first named.1) [
         | inl last ↦

@@ -5,7 +5,7 @@ use Rattle.unit_outcomes.specs.declared.outcome.Outcome.{Outcome}
 use Rattle.decode_jobs.specs.Keys.{Key}
 use Rattle.picture_keys.specs.Known.{Known, key_of_outcome, known_with, known_after, keys_after}
 use Rattle.picture_keys.specs.Numbered.{AllStandFor}
-use Rattle.picture_store.specs.Kept.{Trees}
+use Rattle.picture_store.specs.Stored.{Trees}
 use Rattle.picture_store.specs.Needs.{between}
 use Rattle.picture_store.proofs.Loops.{zip_read}
 

@@ -17,9 +17,9 @@ use Rattle.picture_store.specs.declared.job_out.JobOut.{JobOut}
 use Rattle.picture_store.specs.Stores.{OutValue}
 use Rattle.picture_store.specs.Showing.{IsPictureAt}
 use Rattle.picture_store.specs.Jobs.{IsSameJob, without}
-use Rattle.held_pictures.specs.Places.{place_at, numbers_held}
-use Rattle.picture_store.specs.Places.{PlacesValue}
-use Rattle.picture_store.specs.Kept.{Trees, key_for, keys_for, jobs_for, IsRight, IsJobRight, IsKept}
+use Rattle.held_pictures.specs.KeySlots.{place_at, numbers_held}
+use Rattle.picture_store.specs.KeySlots.{KeySlotsValue}
+use Rattle.picture_store.specs.Stored.{Trees, key_for, keys_for, jobs_for, IsRight, IsJobRight, IsSound}
 use Rattle.held_pictures.proofs.Held.{held_found, found_held}
 use Rattle.picture_store.proofs.Among.{held_among}
 use Rattle.picture_store.proofs.Lifting.{for_contains, contains_for}
@@ -55,17 +55,17 @@ pub foreign_for : {P : Type 0} (keys : Trees) (out : List (JobOut P)) (job : Job
 foreign_for keys out job none = All-map (λ other. IsSameJob job other → ⊥) (seen keys) out none
 
 -- without a job that is out
-pub seen_without : {P : Type 0} (keys : Trees) (ids : List ℕ) (outcomes : List Outcome) (numbers : List (Option ℕ)) (places : PlacesValue P)
-    (cached : List (ℕ × P)) (room : ℕ) (out more : List (JobOut P)) (given : ℕ) (released : List P) (marked : Marked) (at : ℕ) → more ≡ remove out at
-    → viewed keys ids outcomes numbers places cached room more given released marked
-    ≡ without (viewed keys ids outcomes numbers places cached room out given released marked) at
-seen_without {P = P} keys ids outcomes numbers places cached room out more given released marked at is =
-    ap (λ (jobs : List (OutValue P)). record (viewed keys ids outcomes numbers places cached room out given released marked) { jobs_out = jobs })
+pub seen_without : {P : Type 0} (keys : Trees) (ids : List ℕ) (outcomes : List Outcome) (numbers : List (Option ℕ)) (key_slots : KeySlotsValue P)
+    (cached : List (ℕ × P)) (capacity : ℕ) (out more : List (JobOut P)) (given : ℕ) (released : List P) (marked : Marked) (at : ℕ) → more ≡ remove out at
+    → viewed keys ids outcomes numbers key_slots cached capacity more given released marked
+    ≡ without (viewed keys ids outcomes numbers key_slots cached capacity out given released marked) at
+seen_without {P = P} keys ids outcomes numbers key_slots cached capacity out more given released marked at is =
+    ap (λ (jobs : List (OutValue P)). record (viewed keys ids outcomes numbers key_slots cached capacity out given released marked) { jobs_out = jobs })
     (ap (jobs_for keys) is ∙ map_remove (seen keys) out at)
 
-module _ {P : Type 0} {IsDecoded : InputValue P → P → Type 0} {IsOf : Key → P → Type 0} (keys : Trees) (ids : List ℕ) (outcomes : List Outcome) (numbers : List (Option ℕ)) (places : PlacesValue P)
-    (cached : List (ℕ × P)) (out : List (JobOut P)) (kept : IsKept IsDecoded IsOf keys ids outcomes numbers places cached out) where
-  pub kept_without : (at : ℕ) → IsKept IsDecoded IsOf keys ids outcomes numbers places cached (remove out at)
+module _ {P : Type 0} {IsDecoded : InputValue P → P → Type 0} {IsOf : Key → P → Type 0} (keys : Trees) (ids : List ℕ) (outcomes : List Outcome) (numbers : List (Option ℕ)) (key_slots : KeySlotsValue P)
+    (cached : List (ℕ × P)) (out : List (JobOut P)) (kept : IsSound IsDecoded IsOf keys ids outcomes numbers key_slots cached out) where
+  pub kept_without : (at : ℕ) → IsSound IsDecoded IsOf keys ids outcomes numbers key_slots cached (remove out at)
   kept_without at = record {
     right = kept.right;
     same = kept.same;
@@ -77,7 +77,7 @@ module _ {P : Type 0} {IsDecoded : InputValue P → P → Type 0} {IsOf : Key �
   }
 
   module _ (number : ℕ) (key : Key) (live : tree_at keys number ≡ Some key) where
-    place_of_use : Contains (keys_of (zip ids outcomes)) (Some (key_for keys number)) → IsSome (place_at places number)
+    place_of_use : Contains (keys_of (zip ids outcomes)) (Some (key_for keys number)) → IsSome (place_at key_slots number)
     place_of_use is =
         let unit : (n : ℕ) × Contains numbers (Some n) × (tree_at keys n ≡ Some key) =
         stand_number keys numbers (keys_of (zip ids outcomes)) kept.stand key
@@ -86,18 +86,18 @@ module _ {P : Type 0} {IsDecoded : InputValue P → P → Type 0} {IsOf : Key �
         (subst (λ n. Contains numbers (Some n)) (kept.right.one.trees unit.0 number key unit.2 live) unit.1)
 
     -- a key without a place isn't in use
-    pub unused_for : place_at places number ≡ None
+    pub unused_for : place_at key_slots number ≡ None
         → Contains (keys_of (zip ids outcomes)) (Some (key_for keys number)) → ⊥
-    unused_for none is = none_not_some (place_at places number) none (place_of_use is)
+    unused_for none is = none_not_some (place_at key_slots number) none (place_of_use is)
 
     -- a key whose place has a picture is held
-    pub held_for : (picture : P) → place_at places number ≡ Some (Some picture)
-        → Contains (keys_for keys (numbers_held places)) (key_for keys number)
+    pub held_for : (picture : P) → place_at key_slots number ≡ Some (Some picture)
+        → Contains (keys_for keys (numbers_held key_slots)) (key_for keys number)
     held_for picture is =
-        contains_for keys (numbers_held places) number (found_held places number picture is)
+        contains_for keys (numbers_held key_slots) number (found_held key_slots number picture is)
 
     -- a key that has a place is in use
-    pub used_for_place : (picture : Option P) → place_at places number ≡ Some picture
+    pub used_for_place : (picture : Option P) → place_at key_slots number ≡ Some picture
         → Contains (keys_of (zip ids outcomes)) (Some (key_for keys number))
     used_for_place picture is =
         let unit : (k : Key) × (tree_at keys number ≡ Some k) × Contains (keys_of (zip ids outcomes)) (Some k) =
@@ -108,18 +108,18 @@ module _ {P : Type 0} {IsDecoded : InputValue P → P → Type 0} {IsOf : Key �
     two_places o picture held awaited = cc
 
     -- a key whose place has none isn't held
-    pub awaited_for : place_at places number ≡ Some None
-        → Contains (keys_for keys (numbers_held places)) (key_for keys number) → ⊥
+    pub awaited_for : place_at key_slots number ≡ Some None
+        → Contains (keys_for keys (numbers_held key_slots)) (key_for keys number) → ⊥
     awaited_for awaited is =
-        let source : (n : ℕ) × Contains (numbers_held places) n × (key_for keys n ≡ key_for keys number) =
-        for_contains keys (numbers_held places) (key_for keys number) is in
-        let held : (picture : P) × (place_at places source.0 ≡ Some (Some picture)) =
-        held_found places source.0 source.1 in
+        let source : (n : ℕ) × Contains (numbers_held key_slots) n × (key_for keys n ≡ key_for keys number) =
+        for_contains keys (numbers_held key_slots) (key_for keys number) is in
+        let held : (picture : P) × (place_at key_slots source.0 ≡ Some (Some picture)) =
+        held_found key_slots source.0 source.1 in
         let right : IsRight IsDecoded IsOf keys source.0 held.0 = kept.right.held source.0 held.0 held.1 in
         let tree : tree_at keys source.0 ≡ Some key =
         right.1 ∙ ap Some (sym (key_is keys source.0 right.0 right.1) ∙ source.2 ∙ key_is keys number key live) in
         let same : source.0 ≡ number = kept.right.one.trees source.0 number key tree live in
-        two_places (place_at places number) held.0 (subst (λ n. place_at places n ≡ Some (Some held.0)) same held.1) awaited
+        two_places (place_at key_slots number) held.0 (subst (λ n. place_at key_slots n ≡ Some (Some held.0)) same held.1) awaited
 
     picked : (b : Bool) (place other : Option (Option P)) → IsSome other → IsSome place
         → IsSome (if b then place else other)
@@ -127,42 +127,42 @@ module _ {P : Type 0} {IsDecoded : InputValue P → P → Type 0} {IsOf : Key �
     picked false place other others is = others
 
     -- a picture is put into the place of the key
-    module _ (picture : P) (right : IsRight IsDecoded IsOf keys number picture) (awaited : place_at places number ≡ Some None)
-        (more : PlacesValue P)
+    module _ (picture : P) (right : IsRight IsDecoded IsOf keys number picture) (awaited : place_at key_slots number ≡ Some None)
+        (more : KeySlotsValue P)
         (put : (other : ℕ) → place_at more other
-        ≡ (if number == other then Some (Some picture) else place_at places other)) where
+        ≡ (if number == other then Some (Some picture) else place_at key_slots other)) where
       put_there : place_at more number ≡ Some (Some picture)
       put_there =
           put number
-          ∙ ap (λ b. if b then Some (Some picture) else place_at places number) (eq-eqb number number refl)
+          ∙ ap (λ b. if b then Some (Some picture) else place_at key_slots number) (eq-eqb number number refl)
 
       split : (b : Bool) (other : ℕ) (shown : P) → b ≡ (number == other)
-          → (if b then Some (Some picture) else place_at places other) ≡ Some (Some shown)
-          → ((number ≡ other) × (picture ≡ shown)) ⊎ (place_at places other ≡ Some (Some shown))
+          → (if b then Some (Some picture) else place_at key_slots other) ≡ Some (Some shown)
+          → ((number ≡ other) × (picture ≡ shown)) ⊎ (place_at key_slots other ≡ Some (Some shown))
       split true other shown is same = inl (eqb-true number other (sym is), cc)
       split false other shown is same = inr same
 
       -- a picture that is held afterwards is the new one, or was held
       held_then : (other : ℕ) (shown : P) → place_at more other ≡ Some (Some shown)
-          → ((number ≡ other) × (picture ≡ shown)) ⊎ (place_at places other ≡ Some (Some shown))
+          → ((number ≡ other) × (picture ≡ shown)) ⊎ (place_at key_slots other ≡ Some (Some shown))
       held_then other shown is = split (number == other) other shown refl (sym (put other) ∙ is)
 
-      stays_held : (b : Bool) (other : ℕ) (shown : P) → place_at places other ≡ Some (Some shown)
-          → (kept_picture : P) × ((if b then Some (Some picture) else place_at places other) ≡ Some (Some kept_picture))
+      stays_held : (b : Bool) (other : ℕ) (shown : P) → place_at key_slots other ≡ Some (Some shown)
+          → (kept_picture : P) × ((if b then Some (Some picture) else place_at key_slots other) ≡ Some (Some kept_picture))
       stays_held true other shown is = (picture, refl)
       stays_held false other shown is = (shown, is)
 
       there_before : (b : Bool) (other : ℕ) → b ≡ (number == other)
-          → IsSome (if b then Some (Some picture) else place_at places other) → IsSome (place_at places other)
+          → IsSome (if b then Some (Some picture) else place_at key_slots other) → IsSome (place_at key_slots other)
       there_before true other is some =
-          ap is_some (subst (λ n. place_at places n ≡ Some None) (eqb-true number other (sym is)) awaited)
+          ap is_some (subst (λ n. place_at key_slots n ≡ Some None) (eqb-true number other (sym is)) awaited)
       there_before false other is some = some
 
       used_then : (other : ℕ) → IsSome (place_at more other) ↔ Contains numbers (Some other)
       used_then other = (
         λ is. (kept.used other).0 (there_before (number == other) other refl (subst IsSome (put other) is)),
         λ is. subst IsSome (sym (put other))
-            (picked (number == other) (Some (Some picture)) (place_at places other) ((kept.used other).1 is) refl),
+            (picked (number == other) (Some (Some picture)) (place_at key_slots other) ((kept.used other).1 is) refl),
       )
 
       right_then : (other : ℕ) (shown : P) → place_at more other ≡ Some (Some shown) → IsRight IsDecoded IsOf keys other shown
@@ -173,7 +173,7 @@ module _ {P : Type 0} {IsDecoded : InputValue P → P → Type 0} {IsOf : Key �
             | inr before ↦ kept.right.held other shown before
           ]
 
-      pub kept_landed : IsKept IsDecoded IsOf keys ids outcomes numbers more cached out
+      pub kept_landed : IsSound IsDecoded IsOf keys ids outcomes numbers more cached out
       kept_landed = record {
         right = record { one = kept.right.one; held = right_then };
         same = kept.same;
@@ -186,7 +186,7 @@ module _ {P : Type 0} {IsDecoded : InputValue P → P → Type 0} {IsOf : Key �
 
       -- what is held afterwards is what was held, and the key
       pub held_landed : (other : Key) → Contains (keys_for keys (numbers_held more)) other
-          ↔ (Contains (keys_for keys (numbers_held places)) other ⊎ (other ≡ key_for keys number))
+          ↔ (Contains (keys_for keys (numbers_held key_slots)) other ⊎ (other ≡ key_for keys number))
       held_landed other = (
         λ is.
             let source : (n : ℕ) × Contains (numbers_held more) n × (key_for keys n ≡ other) =
@@ -195,16 +195,16 @@ module _ {P : Type 0} {IsDecoded : InputValue P → P → Type 0} {IsOf : Key �
             held_found more source.0 source.1 in
             elim (held_then source.0 held.0 held.1) [
               | inl same ↦ inr (sym source.2 ∙ ap (key_for keys) (sym same.0))
-              | inr before ↦ inl (subst (Contains (keys_for keys (numbers_held places))) source.2
-                  (contains_for keys (numbers_held places) source.0 (found_held places source.0 held.0 before)))
+              | inr before ↦ inl (subst (Contains (keys_for keys (numbers_held key_slots))) source.2
+                  (contains_for keys (numbers_held key_slots) source.0 (found_held key_slots source.0 held.0 before)))
             ],
         λ is. elim is [
           | inl was ↦
-              let source : (n : ℕ) × Contains (numbers_held places) n × (key_for keys n ≡ other) =
-              for_contains keys (numbers_held places) other was in
-              let held : (shown : P) × (place_at places source.0 ≡ Some (Some shown)) =
-              held_found places source.0 source.1 in
-              let still : (shown : P) × ((if number == source.0 then Some (Some picture) else place_at places source.0) ≡ Some (Some shown)) =
+              let source : (n : ℕ) × Contains (numbers_held key_slots) n × (key_for keys n ≡ other) =
+              for_contains keys (numbers_held key_slots) other was in
+              let held : (shown : P) × (place_at key_slots source.0 ≡ Some (Some shown)) =
+              held_found key_slots source.0 source.1 in
+              let still : (shown : P) × ((if number == source.0 then Some (Some picture) else place_at key_slots source.0) ≡ Some (Some shown)) =
               stays_held (number == source.0) source.0 held.0 held.1 in
               subst (Contains (keys_for keys (numbers_held more))) source.2
               (contains_for keys (numbers_held more) source.0
@@ -247,9 +247,9 @@ length-zip_same [] (y ∷ ys) same = refl
 length-zip_same (x ∷ xs) [] same = absurd (omega (arith, same))
 length-zip_same (x ∷ xs) (y ∷ ys) same = ap suc (length-zip_same xs ys (omega (arith, same)))
 
-module _ {P : Type 0} {IsDecoded : InputValue P → P → Type 0} {IsOf : Key → P → Type 0} (keys : Trees) (ids : List ℕ) (outcomes : List Outcome) (numbers : List (Option ℕ)) (places : PlacesValue P)
-    (cached : List (ℕ × P)) (room : ℕ) (out : List (JobOut P)) (given : ℕ) (released : List P) (marked : Marked)
-    (kept : IsKept IsDecoded IsOf keys ids outcomes numbers places cached out) where
+module _ {P : Type 0} {IsDecoded : InputValue P → P → Type 0} {IsOf : Key → P → Type 0} (keys : Trees) (ids : List ℕ) (outcomes : List Outcome) (numbers : List (Option ℕ)) (key_slots : KeySlotsValue P)
+    (cached : List (ℕ × P)) (capacity : ℕ) (out : List (JobOut P)) (given : ℕ) (released : List P) (marked : Marked)
+    (kept : IsSound IsDecoded IsOf keys ids outcomes numbers key_slots cached out) where
   -- each unit has a number, or nothing
   pub found_length : length numbers ≡ length ids
   found_length =
@@ -273,7 +273,7 @@ module _ {P : Type 0} {IsDecoded : InputValue P → P → Type 0} {IsOf : Key �
 
     -- a unit without a key shows no picture
     pub shows_none : None ≡ slice_index_or numbers at None
-        → IsPictureAt IsOf (viewed keys ids outcomes numbers places cached room out given released marked) at None
+        → IsPictureAt IsOf (viewed keys ids outcomes numbers key_slots cached capacity out given released marked) at None
     shows_none is key has held =
         let got : (tree : Option Key) × (slice_get (keys_of (zip ids outcomes)) at ≡ Some tree) × StandsFor keys None tree =
         got_keys keys numbers (keys_of (zip ids outcomes)) kept.stand at None within is in
@@ -288,33 +288,33 @@ module _ {P : Type 0} {IsDecoded : InputValue P → P → Type 0} {IsOf : Key �
           (some.0, got.1 ∙ ap Some some.1, some.2)
 
       -- a picture that is held is shown
-      pub shows_held : (picture : P) → place_at places number ≡ Some (Some picture)
-          → IsPictureAt IsOf (viewed keys ids outcomes numbers places cached room out given released marked) at (Some picture)
+      pub shows_held : (picture : P) → place_at key_slots number ≡ Some (Some picture)
+          → IsPictureAt IsOf (viewed keys ids outcomes numbers key_slots cached capacity out given released marked) at (Some picture)
       shows_held picture held =
           let right : IsRight IsDecoded IsOf keys number picture = kept.right.held number picture held in
           let same : key_for keys number ≡ keyed.0 = key_is keys number keyed.0 keyed.2 in (
             keyed.0,
             keyed.1,
-            subst (Contains (keys_for keys (numbers_held places))) same
-                (contains_for keys (numbers_held places) number (found_held places number picture held)),
+            subst (Contains (keys_for keys (numbers_held key_slots))) same
+                (contains_for keys (numbers_held key_slots) number (found_held key_slots number picture held)),
             subst (λ k. IsOf k picture) (same_Some right.0 keyed.0 (sym right.1 ∙ keyed.2)) right.2,
-            held_among places number picture held,
+            held_among key_slots number picture held,
           )
 
       -- else none is
-      pub shows_waited : ((picture : P) → place_at places number ≡ Some (Some picture) → ⊥)
-          → IsPictureAt IsOf (viewed keys ids outcomes numbers places cached room out given released marked) at None
+      pub shows_waited : ((picture : P) → place_at key_slots number ≡ Some (Some picture) → ⊥)
+          → IsPictureAt IsOf (viewed keys ids outcomes numbers key_slots cached capacity out given released marked) at None
       shows_waited not key has held =
           let same : keyed.0 ≡ key = one_key keyed.0 key keyed.1 has in
-          let source : (n : ℕ) × Contains (numbers_held places) n × (key_for keys n ≡ key) =
-          for_contains keys (numbers_held places) key held in
-          let there : (picture : P) × (place_at places source.0 ≡ Some (Some picture)) =
-          held_found places source.0 source.1 in
+          let source : (n : ℕ) × Contains (numbers_held key_slots) n × (key_for keys n ≡ key) =
+          for_contains keys (numbers_held key_slots) key held in
+          let there : (picture : P) × (place_at key_slots source.0 ≡ Some (Some picture)) =
+          held_found key_slots source.0 source.1 in
           let right : IsRight IsDecoded IsOf keys source.0 there.0 = kept.right.held source.0 there.0 there.1 in
           let tree : tree_at keys source.0 ≡ Some keyed.0 =
           right.1 ∙ ap Some (sym (key_is keys source.0 right.0 right.1) ∙ source.2 ∙ sym same) in
           let one : source.0 ≡ number = kept.right.one.trees source.0 number keyed.0 tree keyed.2 in
-          not there.0 (subst (λ n. place_at places n ≡ Some (Some there.0)) one there.1)
+          not there.0 (subst (λ n. place_at key_slots n ≡ Some (Some there.0)) one there.1)
 
       no_picture : (o : Option (Option P)) (picture : P) → o ≡ None → o ≡ Some (Some picture) → ⊥
       no_picture o picture none some = cc
@@ -323,12 +323,12 @@ module _ {P : Type 0} {IsDecoded : InputValue P → P → Type 0} {IsOf : Key �
       no_inner o picture none some = cc
 
       -- what stands at the key's place is shown
-      pub shows_place : (shown : Option P) → place_at places number ≡ Some shown
-          → IsPictureAt IsOf (viewed keys ids outcomes numbers places cached room out given released marked) at shown
-      shows_place None is = shows_waited (λ picture held. no_inner (place_at places number) picture is held)
+      pub shows_place : (shown : Option P) → place_at key_slots number ≡ Some shown
+          → IsPictureAt IsOf (viewed keys ids outcomes numbers key_slots cached capacity out given released marked) at shown
+      shows_place None is = shows_waited (λ picture held. no_inner (place_at key_slots number) picture is held)
       shows_place (Some picture) is = shows_held picture is
 
       -- where the key has no place, none is
-      pub shows_unused : place_at places number ≡ None
-          → IsPictureAt IsOf (viewed keys ids outcomes numbers places cached room out given released marked) at None
-      shows_unused is = shows_waited (λ picture held. no_picture (place_at places number) picture is held)
+      pub shows_unused : place_at key_slots number ≡ None
+          → IsPictureAt IsOf (viewed keys ids outcomes numbers key_slots cached capacity out given released marked) at None
+      shows_unused is = shows_waited (λ picture held. no_picture (place_at key_slots number) picture is held)

@@ -3,7 +3,7 @@ pub mod Among
 pub mod Loops
 pub mod Fronts
 pub mod Needed
-pub mod Stretched
+pub mod Ranged
 pub mod Swept
 pub mod Ready
 pub mod Entries
@@ -36,4 +36,4 @@ pub mod Flags
 pub mod Marked
 pub mod Same
 pub mod Lifted
-pub mod WithStretch
+pub mod WithSplice

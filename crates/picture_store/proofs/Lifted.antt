@@ -9,10 +9,10 @@ use Rattle.decode_jobs.specs.Keys.{Key}
 use Rattle.picture_keys.specs.Numbered.{AllStandFor, StandsFor}
 use Rattle.picture_keys.specs.declared.changed_units.changed.Changed.{Changed}
 use Rattle.picture_keys.specs.Units.{ComparedUnit, compared, compared_units}
-use Rattle.picture_keys.specs.Stretches.{IsChangedAt, IsLeast}
+use Rattle.picture_keys.specs.Ranges.{IsChangedAt, IsLeast}
 use Rattle.picture_keys.proofs.Lists.{contained}
 use Rattle.held_pictures.proofs.Members.{among_map, among_source, first_or_among, nowhere}
-use Rattle.picture_store.specs.Kept.{Trees}
+use Rattle.picture_store.specs.Stored.{Trees}
 
 -- a unit with its key in place of its number
 abbrev pub lift : Trees → ComparedUnit ℕ → ComparedUnit Key
@@ -110,7 +110,7 @@ module _ {K L : Type 0} (f : ComparedUnit K → ComparedUnit L) (before after : 
     none = least.none;
   }
 
--- so the least stretch by numbers is that by keys
+-- so the least splice by numbers is that by keys
 pub least_by_keys : (keys : Trees) → IsKeyMap keys → (ids more_ids : List ℕ) (outcomes more_outcomes : List Outcome)
     (numbers more_numbers : List (Option ℕ)) (trees more_trees : List (Option Key)) → AllStandFor keys numbers trees
     → AllStandFor keys more_numbers more_trees → (changed : Changed)

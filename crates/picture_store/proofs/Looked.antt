@@ -11,11 +11,11 @@ use Rattle.picture_keys.specs.Known.{keys_of}
 use Rattle.picture_store.specs.declared.answers.Landing.{Landing}
 use Rattle.picture_store.specs.declared.answers.Landing.TheVariants.{Taken, Stale, Foreign}
 use Rattle.picture_store.specs.declared.job_out.JobOut.{JobOut}
-use Rattle.held_pictures.specs.Places.{AreSame, place_of}
+use Rattle.held_pictures.specs.KeySlots.{AreSame, place_of}
 use Rattle.held_pictures.proofs.Members.{here, there, nowhere, first_or_among, All-from_contains}
-use Rattle.picture_store.specs.Places.{PlacesValue}
+use Rattle.picture_store.specs.KeySlots.{KeySlotsValue}
 use Rattle.picture_store.specs.Filling.{IsFilled}
-use Rattle.picture_store.specs.Kept.{Trees, keys_for, numbers_out, IsJobRight, IsKept, KeepsStored}
+use Rattle.picture_store.specs.Stored.{Trees, keys_for, numbers_out, IsJobRight, IsSound, KeepsStored}
 use Rattle.picture_store.specs.Due.{IsDueNumber, IsNotDue}
 use Rattle.picture_store.specs.Looked.{AreNotDue, IsBehind}
 use Rattle.picture_store.specs.Settled.{AreSettled}
@@ -51,42 +51,42 @@ there_taken (first ∷ xs) (suc count) x among =
           (suc rest.0, omega (arith, rest.1), rest.2)
     ]
 
-module _ {P : Type 0} (keys : Trees) (places : PlacesValue P) (out : List (JobOut P)) (numbers : List (Option ℕ)) where
+module _ {P : Type 0} (keys : Trees) (key_slots : KeySlotsValue P) (out : List (JobOut P)) (numbers : List (Option ℕ)) where
   -- a unit before a place before which none is due isn't
-  pub not_there : (count : ℕ) → AreNotDue keys places out numbers count → (at number : ℕ) → at < count
-      → slice_get numbers at ≡ Some (Some number) → IsDueNumber keys places out number → ⊥
+  pub not_there : (count : ℕ) → AreNotDue keys key_slots out numbers count → (at number : ℕ) → at < count
+      → slice_get numbers at ≡ Some (Some number) → IsDueNumber keys key_slots out number → ⊥
   not_there count are at number below is =
-      All-contains (IsNotDue keys places out) (take count numbers) (Some number) are.1
+      All-contains (IsNotDue keys key_slots out) (take count numbers) (Some number) are.1
       (taken_there numbers count at (Some number) below is)
 
   -- where none of so many units is due, none is due before there
   pub none_before : (count : ℕ) → count ≤ length numbers
-      → ((at number : ℕ) → at < count → slice_get numbers at ≡ Some (Some number) → IsDueNumber keys places out number → ⊥)
-      → AreNotDue keys places out numbers count
+      → ((at number : ℕ) → at < count → slice_get numbers at ≡ Some (Some number) → IsDueNumber keys key_slots out number → ⊥)
+      → AreNotDue keys key_slots out numbers count
   none_before count within none = (within, All-from_contains (take count numbers) each)
     where
-      each : (number : Option ℕ) → Contains (take count numbers) number → IsNotDue keys places out number
+      each : (number : Option ℕ) → Contains (take count numbers) number → IsNotDue keys key_slots out number
       each None among = search rules
       each (Some number) among =
           let is = there_taken numbers count (Some number) among in
           none is.0 number is.1 is.2
 
   -- none is due before the first unit
-  pub none_looked : AreNotDue keys places out numbers 0
+  pub none_looked : AreNotDue keys key_slots out numbers 0
   none_looked = (omega arith, λ k d within. absurd (omega (arith, within)))
 
   -- nor is one of fewer units
-  pub fewer_looked : (count less : ℕ) → less ≤ count → AreNotDue keys places out numbers count → AreNotDue keys places out numbers less
+  pub fewer_looked : (count less : ℕ) → less ≤ count → AreNotDue keys key_slots out numbers count → AreNotDue keys key_slots out numbers less
   fewer_looked count less below are =
       none_before less (omega (arith, below, are.0))
       (λ at number under. not_there count are at number (omega (arith, under, below)))
 
   -- nor one of all units, where none is
-  pub all_looked : (count : ℕ) → count ≡ length numbers → All (IsNotDue keys places out) numbers
-      → AreNotDue keys places out numbers count
+  pub all_looked : (count : ℕ) → count ≡ length numbers → All (IsNotDue keys key_slots out) numbers
+      → AreNotDue keys key_slots out numbers count
   all_looked count is none =
       none_before count (omega (arith, is))
-      (λ at number below there. All-contains (IsNotDue keys places out) numbers (Some number) none (among at number below there))
+      (λ at number below there. All-contains (IsNotDue keys key_slots out) numbers (Some number) none (among at number below there))
     where
       among : (at number : ℕ) → at < count → slice_get numbers at ≡ Some (Some number) → Contains numbers (Some number)
       among at number below there =
@@ -94,18 +94,18 @@ module _ {P : Type 0} (keys : Trees) (places : PlacesValue P) (out : List (JobOu
           (taken_there numbers count at (Some number) below there)
 
   -- nor before the later of two places before which none is
-  pub later_looked : (settled looked from : ℕ) → from ≡ max settled looked → AreSettled places out numbers settled
-      → AreNotDue keys places out numbers looked → AreNotDue keys places out numbers from
-  later_looked settled looked from is are not =
+  pub later_looked : (settled searched from : ℕ) → from ≡ max settled searched → AreSettled key_slots out numbers settled
+      → AreNotDue keys key_slots out numbers searched → AreNotDue keys key_slots out numbers from
+  later_looked settled searched from is are not =
       none_before from (omega (arith, is, are.0, not.0)) each
     where
-      first : AreNotDue keys places out numbers settled
-      first = (are.0, none_due_before keys places out numbers settled are)
+      first : AreNotDue keys key_slots out numbers settled
+      first = (are.0, none_due_before keys key_slots out numbers settled are)
 
-      by_place : (at number : ℕ) → (at < settled) ⊎ (at < looked) → slice_get numbers at ≡ Some (Some number)
-          → IsDueNumber keys places out number → ⊥
+      by_place : (at number : ℕ) → (at < settled) ⊎ (at < searched) → slice_get numbers at ≡ Some (Some number)
+          → IsDueNumber keys key_slots out number → ⊥
       by_place at number (inl below) there = not_there settled first at number below there
-      by_place at number (inr below) there = not_there looked not at number below there
+      by_place at number (inr below) there = not_there searched not at number below there
 
       either : (at a b : ℕ) → at < max a b → (at < a) ⊎ (at < b)
       either at zero b below = inr (omega (arith, below))
@@ -116,30 +116,30 @@ module _ {P : Type 0} (keys : Trees) (places : PlacesValue P) (out : List (JobOu
         | inr other ↦ inr (omega (arith, other))
       ]
 
-      each : (at number : ℕ) → at < from → slice_get numbers at ≡ Some (Some number) → IsDueNumber keys places out number → ⊥
-      each at number below = by_place at number (either at settled looked (omega (arith, below, is)))
+      each : (at number : ℕ) → at < from → slice_get numbers at ≡ Some (Some number) → IsDueNumber keys key_slots out number → ⊥
+      each at number below = by_place at number (either at settled searched (omega (arith, below, is)))
 
   -- a key that is due is that of no unit before a place before which none is
-  pub behind_given : (count : ℕ) → AreNotDue keys places out numbers count → (job : JobOut P) → job.first_place ≡ count
-      → IsDueNumber keys places out job.key → IsBehind numbers job
+  pub behind_given : (count : ℕ) → AreNotDue keys key_slots out numbers count → (job : JobOut P) → job.first_place ≡ count
+      → IsDueNumber keys key_slots out job.key → IsBehind numbers job
   behind_given count are job from due =
       λ at below is. not_there count are at job.key (omega (arith, below, from)) is due
 
   -- so each job is behind its place where one is given
-  pub behind_more : (count : ℕ) → AreNotDue keys places out numbers count → (job : JobOut P) (more : List (JobOut P))
-      → more ≡ out ++ job ∷ [] → job.first_place ≡ count → IsDueNumber keys places out job.key → All (IsBehind numbers) out
+  pub behind_more : (count : ℕ) → AreNotDue keys key_slots out numbers count → (job : JobOut P) (more : List (JobOut P))
+      → more ≡ out ++ job ∷ [] → job.first_place ≡ count → IsDueNumber keys key_slots out job.key → All (IsBehind numbers) out
       → All (IsBehind numbers) more
   behind_more count are job more is from due behind =
       subst (All (IsBehind numbers)) (sym is) (All-push (IsBehind numbers) out job behind (behind_given count are job from due))
 
 -- nor is one of them due where a job more is out
-pub looked_more : {P : Type 0} (keys : Trees) (places : PlacesValue P) (out : List (JobOut P)) (numbers : List (Option ℕ)) (job : JobOut P)
-    (more : List (JobOut P)) → more ≡ out ++ job ∷ [] → (count : ℕ) → AreNotDue keys places out numbers count
-    → AreNotDue keys places more numbers count
-looked_more {P = P} keys places out numbers job more is count are =
-    none_before keys places more numbers count are.0
+pub looked_more : {P : Type 0} (keys : Trees) (key_slots : KeySlotsValue P) (out : List (JobOut P)) (numbers : List (Option ℕ)) (job : JobOut P)
+    (more : List (JobOut P)) → more ≡ out ++ job ∷ [] → (count : ℕ) → AreNotDue keys key_slots out numbers count
+    → AreNotDue keys key_slots more numbers count
+looked_more {P = P} keys key_slots out numbers job more is count are =
+    none_before keys key_slots more numbers count are.0
     (λ at number below there due.
-    not_there keys places out numbers count are at number below there (due_given keys places out more stay number due))
+    not_there keys key_slots out numbers count are at number below there (due_given keys key_slots out more stay number due))
   where
     stay : (number : ℕ) → Contains (numbers_out out) number → Contains (numbers_out more) number
     stay number among =
@@ -148,10 +148,10 @@ looked_more {P = P} keys places out numbers job more is count are =
         (Contains-append_left (numbers_out out) (numbers_out (job ∷ [])) number among))
 
 -- what isn't due where the keys that are stored stay
-module _ {P : Type 0} {IsDecoded : InputValue P → P → Type 0} {IsOf : Key → P → Type 0} (keys more : Trees) (ids : List ℕ) (outcomes : List Outcome) (numbers : List (Option ℕ)) (places : PlacesValue P)
-    (cached : List (ℕ × P)) (out : List (JobOut P)) (kept : IsKept IsDecoded IsOf keys ids outcomes numbers places cached out)
+module _ {P : Type 0} {IsDecoded : InputValue P → P → Type 0} {IsOf : Key → P → Type 0} (keys more : Trees) (ids : List ℕ) (outcomes : List Outcome) (numbers : List (Option ℕ)) (key_slots : KeySlotsValue P)
+    (cached : List (ℕ × P)) (out : List (JobOut P)) (kept : IsSound IsDecoded IsOf keys ids outcomes numbers key_slots cached out)
     (stay : KeepsStored numbers cached out keys more) where
-  due_stays : (number : ℕ) → Contains numbers (Some number) → IsDueNumber more places out number → IsDueNumber keys places out number
+  due_stays : (number : ℕ) → Contains numbers (Some number) → IsDueNumber more key_slots out number → IsDueNumber keys key_slots out number
   due_stays number among due =
       let live = stand_live keys numbers (keys_of (zip ids outcomes)) kept.stand number among in
       let same : due.key ≡ live.0 = same_Some due.key live.0 (sym due.tree ∙ stay number live.0 (inl among) live.1) in
@@ -161,21 +161,21 @@ module _ {P : Type 0} {IsDecoded : InputValue P → P → Type 0} {IsOf : Key �
         key = due.key;
         tree = live.1 ∙ ap (λ (k : Key). Some k) (sym same);
         ready =
-            subst (λ held. IsReady held due.key) (held_stay keys more ids outcomes numbers places cached out kept stay) due.ready;
+            subst (λ held. IsReady held due.key) (held_stay keys more ids outcomes numbers key_slots cached out kept stay) due.ready;
       }
 
-  pub looked_stays : (count : ℕ) → AreNotDue keys places out numbers count → AreNotDue more places out numbers count
+  pub looked_stays : (count : ℕ) → AreNotDue keys key_slots out numbers count → AreNotDue more key_slots out numbers count
   looked_stays count are =
-      none_before more places out numbers count are.0
-      (λ at number below is due. not_there keys places out numbers count are at number below is (due_stays number (got_among numbers at (Some number) is) due))
+      none_before more key_slots out numbers count are.0
+      (λ at number below is due. not_there keys key_slots out numbers count are at number below is (due_stays number (got_among numbers at (Some number) is) due))
 
 -- what isn't due where the slots of keys are the same
-module _ {P : Type 0} (places grown : PlacesValue P) (same : AreSame places grown) where
-  pub looked_same : (keys : Trees) (out : List (JobOut P)) (numbers : List (Option ℕ)) (count : ℕ) → AreNotDue keys places out numbers count
+module _ {P : Type 0} (key_slots grown : KeySlotsValue P) (same : AreSame key_slots grown) where
+  pub looked_same : (keys : Trees) (out : List (JobOut P)) (numbers : List (Option ℕ)) (count : ℕ) → AreNotDue keys key_slots out numbers count
       → AreNotDue keys grown out numbers count
   looked_same keys out numbers count are =
       none_before keys grown out numbers count are.0
-      (λ at number below is due. not_there keys places out numbers count are at number below is (record {
+      (λ at number below is due. not_there keys key_slots out numbers count are at number below is (record {
         awaited = sym (ap place_of (same.slots number)) ∙ due.awaited;
         free = due.free;
         key = due.key;
@@ -183,8 +183,8 @@ module _ {P : Type 0} (places grown : PlacesValue P) (same : AreSame places grow
         ready = subst (λ held. IsReady (keys_for keys held) due.key) same.held due.ready;
       }))
 
-module _ {P : Type 0} {IsDecoded : InputValue P → P → Type 0} {IsOf : Key → P → Type 0} (keys : Trees) (ids : List ℕ) (outcomes : List Outcome) (numbers : List (Option ℕ)) (places : PlacesValue P)
-    (cached : List (ℕ × P)) (out : List (JobOut P)) (kept : IsKept IsDecoded IsOf keys ids outcomes numbers places cached out) where
+module _ {P : Type 0} {IsDecoded : InputValue P → P → Type 0} {IsOf : Key → P → Type 0} (keys : Trees) (ids : List ℕ) (outcomes : List Outcome) (numbers : List (Option ℕ)) (key_slots : KeySlotsValue P)
+    (cached : List (ℕ × P)) (out : List (JobOut P)) (kept : IsSound IsDecoded IsOf keys ids outcomes numbers key_slots cached out) where
   -- where a result lands, units become due that refer to its key; they stand behind its job's place
   module _ (at : ℕ) (within : at < length out) (other : JobOut P) (stands : other ≡ slice_index_or out at other) where
     right : IsJobRight IsDecoded IsOf keys other
@@ -194,17 +194,17 @@ module _ {P : Type 0} {IsDecoded : InputValue P → P → Type 0} {IsOf : Key �
     behind : All (IsBehind numbers) out → IsBehind numbers other
     behind all = subst (IsBehind numbers) (sym stands) (All-get_or (IsBehind numbers) out at other within all)
 
-    pub looked_landed : (picture : P) (landing : Landing) (more : PlacesValue P) (left : List (JobOut P)) (count less : ℕ)
-        → left ≡ remove out at → IsFilled places other.key picture landing more → less ≤ count
+    pub looked_landed : (picture : P) (landing : Landing) (more : KeySlotsValue P) (left : List (JobOut P)) (count less : ℕ)
+        → left ≡ remove out at → IsFilled key_slots other.key picture landing more → less ≤ count
         → (landing ≡ Taken → less ≤ other.first_place) → All (IsBehind numbers) out
-        → AreNotDue keys places out numbers count → AreNotDue keys more left numbers less
+        → AreNotDue keys key_slots out numbers count → AreNotDue keys more left numbers less
     looked_landed picture Foreign more left count less gone filled below front all are = absurd filled
     looked_landed picture Stale more left count less gone filled below front all are =
         subst (λ jobs. AreNotDue keys more jobs numbers less) (sym gone)
         (subst (λ p. AreNotDue keys p (remove out at) numbers less) (sym filled.1)
-        (none_before keys places (remove out at) numbers less (omega (arith, below, are.0))
-        (λ place number under is due. not_there keys places out numbers count are place number (omega (arith, under, below)) is
-        (due_stale keys places out at other stands filled.0 number due))))
+        (none_before keys key_slots (remove out at) numbers less (omega (arith, below, are.0))
+        (λ place number under is due. not_there keys key_slots out numbers count are place number (omega (arith, under, below)) is
+        (due_stale keys key_slots out at other stands filled.0 number due))))
     looked_landed picture Taken more left count less gone filled below front all are =
         subst (λ jobs. AreNotDue keys more jobs numbers less) (sym gone)
         (none_before keys more (remove out at) numbers less (omega (arith, below, are.0)) none)
@@ -212,10 +212,10 @@ module _ {P : Type 0} {IsDecoded : InputValue P → P → Type 0} {IsOf : Key �
         none : (place number : ℕ) → place < less → slice_get numbers place ≡ Some (Some number)
             → IsDueNumber keys more (remove out at) number → ⊥
         none place number under is due =
-            elim (due_or keys ids outcomes numbers places cached out kept at other stands picture more filled.0 filled.1 right.0
+            elim (due_or keys ids outcomes numbers key_slots cached out kept at other stands picture more filled.0 filled.1 right.0
             right.1 place (number, is, due)) [
               | inl was ↦
-                  not_there keys places out numbers count are place was.0 (omega (arith, under, below)) was.1 was.2
+                  not_there keys key_slots out numbers count are place was.0 (omega (arith, under, below)) was.1 was.2
               | inr refers ↦
                   let before = refers_later keys ids outcomes numbers kept.stand kept.right.one place other.key refers in
                   behind all before.0 (omega (arith, before.1, under, front refl)) before.2

@@ -5,7 +5,7 @@ use Rattle.std.proofs.lemmas.List.{take_more}
 use Rattle.std.proofs.lemmas.List.Elements.{Contains-push_cases, Contains-append_left, Contains-push}
 use Rattle.std.proofs.lemmas.Bool.Decides.{nat_tests}
 use Rattle.picture_store.specs.declared.job_out.JobOut.{JobOut}
-use Rattle.picture_store.specs.Kept.{numbers_out}
+use Rattle.picture_store.specs.Stored.{numbers_out}
 
 module _ {X : Type 0} where
   pub first_in : (y : X) (ys : List X) → Contains (y ∷ ys) y

@@ -10,12 +10,12 @@ use Rattle.decode_jobs.specs.Trees.Tree.{Bare, Gap, With}
 use Rattle.decode_jobs.specs.Keys.{Key}
 use Rattle.picture_keys.specs.Known.{keys_of}
 use Rattle.picture_keys.specs.Numbered.{AllStandFor}
-use Rattle.held_pictures.specs.Places.{place_at, numbers_held, uses_at}
+use Rattle.held_pictures.specs.KeySlots.{place_at, numbers_held, uses_at}
 use Rattle.held_pictures.proofs.Members.{among_map, All-from_contains}
 use Rattle.held_pictures.proofs.Slots.{used_some}
 use Rattle.picture_store.specs.declared.job_out.JobOut.{JobOut}
-use Rattle.picture_store.specs.Places.{PlacesValue, ArePlaced, carried, held_or}
-use Rattle.picture_store.specs.Kept.{Trees, AreRight, jobs_for, keys_for, numbers_out, IsJobRight, IsKept}
+use Rattle.picture_store.specs.KeySlots.{KeySlotsValue, ArePlaced, carried, held_or}
+use Rattle.picture_store.specs.Stored.{Trees, AreRight, jobs_for, keys_for, numbers_out, IsJobRight, IsSound}
 use Rattle.picture_store.specs.Due.{IsDueNumber}
 use Rattle.picture_store.specs.Looked.{AreNotDue, IsBehind, lowered}
 use Rattle.picture_store.specs.Schedules.{IsEntryOf}
@@ -44,10 +44,10 @@ pub jobs_lowered : {P : Type 0} (keys : Trees) (from : ℕ) (out : List (JobOut 
 jobs_lowered keys from out = map_lowered (seen keys) from (λ job. refl) out
 
 -- what is kept
-pub kept_lowered : {P : Type 0} {IsDecoded : InputValue P → P → Type 0} {IsOf : Key → P → Type 0} (keys : Trees) (ids : List ℕ) (outcomes : List Outcome) (numbers : List (Option ℕ)) (places : PlacesValue P)
+pub kept_lowered : {P : Type 0} {IsDecoded : InputValue P → P → Type 0} {IsOf : Key → P → Type 0} (keys : Trees) (ids : List ℕ) (outcomes : List Outcome) (numbers : List (Option ℕ)) (key_slots : KeySlotsValue P)
     (cached : List (ℕ × P)) (out more : List (JobOut P)) (from : ℕ) → more ≡ map (lowered from) out
-    → IsKept IsDecoded IsOf keys ids outcomes numbers places cached out → IsKept IsDecoded IsOf keys ids outcomes numbers places cached more
-kept_lowered {IsDecoded = IsDecoded} {IsOf = IsOf} keys ids outcomes numbers places cached out more from is kept = record {
+    → IsSound IsDecoded IsOf keys ids outcomes numbers key_slots cached out → IsSound IsDecoded IsOf keys ids outcomes numbers key_slots cached more
+kept_lowered {IsDecoded = IsDecoded} {IsOf = IsOf} keys ids outcomes numbers key_slots cached out more from is kept = record {
   right = kept.right;
   same = kept.same;
   stand = kept.stand;
@@ -61,14 +61,14 @@ kept_lowered {IsDecoded = IsDecoded} {IsOf = IsOf} keys ids outcomes numbers pla
 }
 
 -- what needs no job
-pub settled_lowered : {P : Type 0} (places : PlacesValue P) (out more : List (JobOut P)) (from : ℕ) (numbers : List (Option ℕ)) (count : ℕ)
-    → more ≡ map (lowered from) out → AreSettled places out numbers count → AreSettled places more numbers count
-settled_lowered places out more from numbers count is are =
-    subst (λ jobs. AreSettled places jobs numbers count) (sym is)
-    (settled_stay places places out (map (lowered from) out) numbers count stays are)
+pub settled_lowered : {P : Type 0} (key_slots : KeySlotsValue P) (out more : List (JobOut P)) (from : ℕ) (numbers : List (Option ℕ)) (count : ℕ)
+    → more ≡ map (lowered from) out → AreSettled key_slots out numbers count → AreSettled key_slots more numbers count
+settled_lowered key_slots out more from numbers count is are =
+    subst (λ jobs. AreSettled key_slots jobs numbers count) (sym is)
+    (settled_stay key_slots key_slots out (map (lowered from) out) numbers count stays are)
   where
-    stays : (number : Option ℕ) → Contains numbers number → NeedsNone places out number
-        → NeedsNone places (map (lowered from) out) number
+    stays : (number : Option ℕ) → Contains numbers number → NeedsNone key_slots out number
+        → NeedsNone key_slots (map (lowered from) out) number
     stays None among needs = needs
     stays (Some number) among needs = elim needs [
       | inl held ↦ inl held
@@ -76,12 +76,12 @@ settled_lowered places out more from numbers count is are =
     ]
 
 -- what isn't due
-pub looked_lowered : {P : Type 0} (keys : Trees) (places : PlacesValue P) (out more : List (JobOut P)) (from : ℕ) (numbers : List (Option ℕ)) (count : ℕ)
-    → more ≡ map (lowered from) out → AreNotDue keys places out numbers count → AreNotDue keys places more numbers count
-looked_lowered keys places out more from numbers count is are =
-    subst (λ jobs. AreNotDue keys places jobs numbers count) (sym is)
-    (none_before keys places (map (lowered from) out) numbers count are.0
-    (λ at number below there due. not_there keys places out numbers count are at number below there (record {
+pub looked_lowered : {P : Type 0} (keys : Trees) (key_slots : KeySlotsValue P) (out more : List (JobOut P)) (from : ℕ) (numbers : List (Option ℕ)) (count : ℕ)
+    → more ≡ map (lowered from) out → AreNotDue keys key_slots out numbers count → AreNotDue keys key_slots more numbers count
+looked_lowered keys key_slots out more from numbers count is are =
+    subst (λ jobs. AreNotDue keys key_slots jobs numbers count) (sym is)
+    (none_before keys key_slots (map (lowered from) out) numbers count are.0
+    (λ at number below there due. not_there keys key_slots out numbers count are at number below there (record {
       awaited = due.awaited;
       free = λ among. due.free (subst (λ numbers. Contains numbers number) (sym (numbers_lowered from out)) among);
       key = due.key;
@@ -120,7 +120,7 @@ awaited_before (Some (Some picture)) other none some = absurd cc
 -- a key is ready where those of its entries that are held now were held
 ready_before : (held more : List Key) (tree : Key) → ((first : Key) → IsEntryOf first tree → Contains more first → Contains held first)
     → IsReady more tree → IsReady held tree
-ready_before held more (Bare works) each ready = tt
+ready_before held more (Bare bodies) each ready = tt
 ready_before held more (Gap rest) each ready = ready_before held more rest each ready
 ready_before held more (With first rest) each ready = (
   each first (inl refl) ready.0,
@@ -133,54 +133,54 @@ inner place shown none some = cc
 unplaced : {P : Type 0} (place : Option (Option P)) → place ≡ None → place ≡ Some None → ⊥
 unplaced place none some = cc
 
-module _ {P : Type 0} {IsDecoded : InputValue P → P → Type 0} {IsOf : Key → P → Type 0} (keys : Trees) (ids : List ℕ) (outcomes : List Outcome) (numbers : List (Option ℕ)) (places : PlacesValue P)
-    (cached : List (ℕ × P)) (out : List (JobOut P)) (kept : IsKept IsDecoded IsOf keys ids outcomes numbers places cached out)
-    (apart : (number : ℕ) → 0 < uses_at places number → Contains (numbers_of cached) number → ⊥)
-    (more_ids : List ℕ) (more_outcomes : List Outcome) (more_found : List (Option ℕ)) (more_places : PlacesValue P)
+module _ {P : Type 0} {IsDecoded : InputValue P → P → Type 0} {IsOf : Key → P → Type 0} (keys : Trees) (ids : List ℕ) (outcomes : List Outcome) (numbers : List (Option ℕ)) (key_slots : KeySlotsValue P)
+    (cached : List (ℕ × P)) (out : List (JobOut P)) (kept : IsSound IsDecoded IsOf keys ids outcomes numbers key_slots cached out)
+    (apart : (number : ℕ) → 0 < uses_at key_slots number → Contains (numbers_of cached) number → ⊥)
+    (more_ids : List ℕ) (more_outcomes : List Outcome) (more_found : List (Option ℕ)) (more_places : KeySlotsValue P)
     (stand : AllStandFor keys more_found (keys_of (zip more_ids more_outcomes)))
-    (placed : ArePlaced more_found places cached more_places) (right : AreRight IsDecoded IsOf keys more_places) where
+    (placed : ArePlaced more_found key_slots cached more_places) (right : AreRight IsDecoded IsOf keys more_places) where
   -- a key in use whose picture is held now was held
   held_still : (number : ℕ) → Contains numbers (Some number) → (picture : P) → place_at more_places number ≡ Some (Some picture)
-      → place_at places number ≡ Some (Some picture)
+      → place_at key_slots number ≡ Some (Some picture)
   held_still number used picture is =
-      elim (held_before keys ids outcomes numbers places cached out kept more_ids more_outcomes more_found more_places stand placed
+      elim (held_before keys ids outcomes numbers key_slots cached out kept more_ids more_outcomes more_found more_places stand placed
       number picture is) [
         | inl held ↦ held
         | inr stored ↦
-            absurd (apart number (used_some places number ((kept.used number).1 used))
+            absurd (apart number (used_some key_slots number ((kept.used number).1 used))
             (among_map (λ (pair : ℕ × P). pair.0) cached (number, picture) stored))
       ]
 
   -- a unit that is due now was due
   due_still : (at number : ℕ) → slice_get numbers at ≡ Some (Some number) → IsDueNumber keys more_places out number
-      → IsDueNumber keys places out number
+      → IsDueNumber keys key_slots out number
   due_still at number is due = record {
     awaited = elim (placed number) [
       | inl used ↦
-          awaited_before (place_at places number) _ (inner (place_at more_places number) (carried places cached number) due.awaited used.1)
+          awaited_before (place_at key_slots number) _ (inner (place_at more_places number) (carried key_slots cached number) due.awaited used.1)
           ((kept.used number).1 (got_among numbers at (Some number) is))
       | inr unused ↦ absurd (unplaced (place_at more_places number) unused.1 due.awaited)
     ];
     free = due.free;
     key = due.key;
     tree = due.tree;
-    ready = ready_before (keys_for keys (numbers_held places)) (keys_for keys (numbers_held more_places)) due.key each due.ready;
+    ready = ready_before (keys_for keys (numbers_held key_slots)) (keys_for keys (numbers_held more_places)) due.key each due.ready;
   }
     where
       each : (first : Key) → IsEntryOf first due.key → Contains (keys_for keys (numbers_held more_places)) first
-          → Contains (keys_for keys (numbers_held places)) first
+          → Contains (keys_for keys (numbers_held key_slots)) first
       each first among held_now =
           let before = entry_before keys ids outcomes numbers kept.stand at number due.key first is due.tree among in
           let held = key_held keys more_places right before.2 first before.4 held_now in
-          held_key keys places kept.right before.2 first before.4
+          held_key keys key_slots kept.right before.2 first before.4
           (held.0, held_still before.2 (got_among numbers before.0 (Some before.2) before.3) held.0 held.1)
 
   -- of the units in front of a place none is due then
   pub looked_front : (later : List (Option ℕ)) (count from less : ℕ) → less ≤ count → less ≤ from → from ≤ length numbers
-      → AreNotDue keys places out numbers count → AreNotDue keys more_places out (take from numbers ++ later) less
+      → AreNotDue keys key_slots out numbers count → AreNotDue keys more_places out (take from numbers ++ later) less
   looked_front later count from less in_count in_front within are =
       none_before keys more_places out (take from numbers ++ later) less
       (omega (arith, in_front, within, length-append (take from numbers) later, length-take-le from numbers within))
       (λ at number below there due.
       let is = got_front at from numbers later (Some number) (omega (arith, below, in_front)) within there in
-      not_there keys places out numbers count are at number (omega (arith, below, in_count)) is (due_still at number is due))
+      not_there keys key_slots out numbers count are at number (omega (arith, below, in_count)) is (due_still at number is due))

@@ -10,9 +10,9 @@ use Rattle.std.proofs.lemmas.Option.{same_Some, get_or_from_slice_get}
 use Rattle.picture_store.specs.declared.job_out.JobOut.{JobOut}
 use Rattle.picture_store.specs.Altered.{IsAltered}
 use Rattle.picture_store.specs.Stores.{StoreValue}
-use Rattle.picture_store.specs.Places.{PlacesValue}
+use Rattle.picture_store.specs.KeySlots.{KeySlotsValue}
 use Rattle.held_pictures.proofs.Members.{here, there, nowhere, first_or_among, map_same}
-use Rattle.picture_store.specs.Kept.{Trees, key_for, keys_for, IsKept, KeepsMarked}
+use Rattle.picture_store.specs.Stored.{Trees, key_for, keys_for, IsSound, KeepsMarked}
 use Rattle.picture_store.specs.Marks.{AreMarked, marked_for, numbers_marked}
 use Rattle.picture_store.proofs.Lifting.{for_contains, contains_for}
 use Rattle.picture_store.proofs.Pended.{key_at_place, number_at_place}
@@ -95,24 +95,24 @@ module _ (keys : Trees) where
         live.1 ∙ ap Some (sym (key_is keys source.0 live.0 live.1) ∙ source.2) in
         subst (Contains marked) (one.trees source.0 number key same tree) source.1
 
-module _ {P : Type 0} {IsDecoded : InputValue P → P → Type 0} {IsOf : Key → P → Type 0} (keys : Trees) (ids : List ℕ) (outcomes : List Outcome) (numbers : List (Option ℕ)) (places : PlacesValue P)
-    (cached : List (ℕ × P)) (room : ℕ) (out : List (JobOut P)) (given : ℕ) (released : List P)
-    (kept : IsKept IsDecoded IsOf keys ids outcomes numbers places cached out) where
+module _ {P : Type 0} {IsDecoded : InputValue P → P → Type 0} {IsOf : Key → P → Type 0} (keys : Trees) (ids : List ℕ) (outcomes : List Outcome) (numbers : List (Option ℕ)) (key_slots : KeySlotsValue P)
+    (cached : List (ℕ × P)) (capacity : ℕ) (out : List (JobOut P)) (given : ℕ) (released : List P)
+    (kept : IsSound IsDecoded IsOf keys ids outcomes numbers key_slots cached out) where
   -- a unit without a key isn't altered
   pub none_altered : (marked : Marked) (at : ℕ) → None ≡ get_or numbers at None
-      → IsAltered (viewed keys ids outcomes numbers places cached room out given released marked) at → ⊥
+      → IsAltered (viewed keys ids outcomes numbers key_slots cached capacity out given released marked) at → ⊥
   none_altered marked at none altered =
-      let number = number_at_place keys ids outcomes numbers places cached room out given released marked kept at altered.key altered.has in
+      let number = number_at_place keys ids outcomes numbers key_slots cached capacity out given released marked kept at altered.key altered.has in
       none_is_not_some number.0 (sym (get_or_from_slice_get numbers at (Some number.0) None number.1) ∙ sym none)
 
   module _ (marked : List ℕ) (at number : ℕ) (stands : slice_get numbers at ≡ Some (Some number)) where
     abbrev store : StoreValue P
-    store = viewed keys ids outcomes numbers places cached room out given released (marked_for keys (Some marked))
+    store = viewed keys ids outcomes numbers key_slots cached capacity out given released (marked_for keys (Some marked))
 
     -- one whose number isn't marked is
     is_altered : AreMarked keys (Some marked) → (Contains marked number → ⊥) → IsAltered store at
     is_altered are not =
-        let key = key_at_place keys ids outcomes numbers places cached room out given released (marked_for keys (Some marked)) kept at number stands in
+        let key = key_at_place keys ids outcomes numbers key_slots cached capacity out given released (marked_for keys (Some marked)) kept at number stands in
         record {
           key = key.0;
           has = key.1;
@@ -124,7 +124,7 @@ module _ {P : Type 0} {IsDecoded : InputValue P → P → Type 0} {IsOf : Key �
     -- and one whose number is isn't
     not_altered : Contains marked number → IsAltered store at → ⊥
     not_altered is altered =
-        let found = number_at_place keys ids outcomes numbers places cached room out given released (marked_for keys (Some marked)) kept at altered.key altered.has in
+        let found = number_at_place keys ids outcomes numbers key_slots cached capacity out given released (marked_for keys (Some marked)) kept at altered.key altered.has in
         let same : found.0 ≡ number = same_Some found.0 number (same_Some (Some found.0) (Some number) (sym found.1 ∙ stands)) in
         let tree : tree_at keys number ≡ Some altered.key = subst (λ n. tree_at keys n ≡ Some altered.key) same found.2 in
         altered.new

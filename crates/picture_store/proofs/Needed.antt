@@ -12,7 +12,7 @@ use Rattle.picture_keys.specs.Depending.{AreAlike, DependOn}
 use Rattle.picture_keys.specs.Numbered.{Numbers, number_at, numbers_over, StandsFor, AreNumbered, AllStandFor}
 use Rattle.picture_keys.specs.Following.{UnitNumbers, Follow}
 use Rattle.picture_keys.proofs.Columns.{numbered_over}
-use Rattle.picture_store.specs.Kept.{Trees}
+use Rattle.picture_store.specs.Stored.{Trees}
 use Rattle.picture_store.specs.Needs.{AgreeAt, TellNeeds, between}
 use Rattle.picture_store.proofs.Fronts.{keys_append, stand_append, stand_front, stand_behind, stand_length, zip_behind, between_rest}
 
@@ -86,7 +86,7 @@ module _ (keys : Trees) (ids : List ℕ) (outcomes : List Outcome) (numbers : Li
     behind_stand (inl end) = ended end
     behind_stand (inr agree) = agreed agree
 
-  -- and so those of all from a changed stretch on
+  -- and so those of all from a changed splice on
   pub anew_stand : (known : Known) (units : List (ℕ × Outcome)) (to : ℕ) (after : UnitNumbers) → to ≤ past
       → Follow keys known (units ++ between to past ids outcomes) after
       → (past ≡ length ids) ⊎ AgreeAt states past (numbers_over [] (take past ids) (take past numbers)) after.numbers

@@ -7,7 +7,7 @@ use Rattle.decode_jobs.specs.Keys.{Key}
 use Rattle.picture_keys.specs.Numbered.{StandsFor, AllStandFor}
 use Rattle.picture_store.specs.Stores.{AreNumbered, IsNumberInUse, StoreValue, unit_keys}
 use Rattle.picture_store.specs.Showing.{IsNumberAt}
-use Rattle.picture_store.specs.Kept.{Trees}
+use Rattle.picture_store.specs.Stored.{Trees}
 
 nothing_there : {X : Type 0} (at : ℕ) (x : X) → slice_get [] at ≡ Some x → ⊥
 nothing_there at x is = cc

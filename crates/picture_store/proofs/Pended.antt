@@ -7,7 +7,7 @@ use Rattle.unit_outcomes.specs.declared.outcome.Outcome.{Outcome}
 use Rattle.decode_jobs.specs.KeyMaps.{tree_at}
 use Rattle.decode_jobs.specs.Keys.{Key}
 use Rattle.picture_keys.specs.Known.{keys_of}
-use Rattle.held_pictures.specs.Places.{place_at}
+use Rattle.held_pictures.specs.KeySlots.{place_at}
 use Rattle.held_pictures.proofs.Members.{here, there, nowhere, first_or_among}
 use Rattle.held_pictures.specs.Held.{IsWaiting}
 use Rattle.held_pictures.specs.Needed.{IsNeeded}
@@ -16,9 +16,9 @@ use Rattle.held_pictures.proofs.Standing.{stands_at, number_there, tree_there, n
 use Rattle.picture_store.specs.declared.job_out.JobOut.{JobOut}
 use Rattle.picture_store.specs.Stores.{OutValue, StoreValue, IsReady}
 use Rattle.picture_store.specs.Showing.{HasKey}
-use Rattle.picture_store.specs.Places.{PlacesValue}
+use Rattle.picture_store.specs.KeySlots.{KeySlotsValue}
 use Rattle.picture_store.specs.Due.{IsHeld, IsDueNumber, IsDueThere}
-use Rattle.picture_store.specs.Kept.{Trees, jobs_for, numbers_out, IsKept}
+use Rattle.picture_store.specs.Stored.{Trees, jobs_for, numbers_out, IsSound}
 use Rattle.picture_store.specs.Pending.{IsPending, IsNeededBy, IsDueAt, IsAnyOutBy}
 use Rattle.picture_store.proofs.Ready.{held_key, key_held}
 use Rattle.picture_store.proofs.Stays.{key_is, none_is_not_some, stand_number}
@@ -55,21 +55,21 @@ apart_empty : {P : Type 0} (picture : P) → ◌≡◌ {A = Option (Option P)} (
 apart_empty picture same = cc
 
 -- a picture is held, or it isn't
-pub held_or_not : {P : Type 0} (places : PlacesValue P) (number : ℕ) → IsHeld places number ⊎ (IsHeld places number → ⊥)
-held_or_not {P = P} places number = by_place (place_at places number) refl
+pub held_or_not : {P : Type 0} (key_slots : KeySlotsValue P) (number : ℕ) → IsHeld key_slots number ⊎ (IsHeld key_slots number → ⊥)
+held_or_not {P = P} key_slots number = by_place (place_at key_slots number) refl
   where
-    by_place : (place : Option (Option P)) → place_at places number ≡ place
-        → IsHeld places number ⊎ (IsHeld places number → ⊥)
+    by_place : (place : Option (Option P)) → place_at key_slots number ≡ place
+        → IsHeld key_slots number ⊎ (IsHeld key_slots number → ⊥)
     by_place None is = inr (λ held. apart_none held.0 (sym is ∙ held.1))
     by_place (Some None) is = inr (λ held. apart_empty held.0 (sym is ∙ held.1))
     by_place (Some (Some picture)) is = inl (picture, is)
 
-module _ {P : Type 0} {IsDecoded : InputValue P → P → Type 0} {IsOf : Key → P → Type 0} (keys : Trees) (ids : List ℕ) (outcomes : List Outcome) (numbers : List (Option ℕ)) (places : PlacesValue P)
-    (cached : List (ℕ × P)) (room : ℕ) (out : List (JobOut P)) (given : ℕ) (released : List P) (marked : Marked)
-    (kept : IsKept IsDecoded IsOf keys ids outcomes numbers places cached out) where
+module _ {P : Type 0} {IsDecoded : InputValue P → P → Type 0} {IsOf : Key → P → Type 0} (keys : Trees) (ids : List ℕ) (outcomes : List Outcome) (numbers : List (Option ℕ)) (key_slots : KeySlotsValue P)
+    (cached : List (ℕ × P)) (capacity : ℕ) (out : List (JobOut P)) (given : ℕ) (released : List P) (marked : Marked)
+    (kept : IsSound IsDecoded IsOf keys ids outcomes numbers key_slots cached out) where
   -- the store as contracts see it
   abbrev store : StoreValue P
-  store = viewed keys ids outcomes numbers places cached room out given released marked
+  store = viewed keys ids outcomes numbers key_slots cached capacity out given released marked
 
   -- the number of a unit's key
   pub number_at_place : (at : ℕ) (key : Key) → HasKey store at key
@@ -89,44 +89,44 @@ module _ {P : Type 0} {IsDecoded : InputValue P → P → Type 0} {IsOf : Key �
       (key.0, tree.1 ∙ ap Some key.1, key.2)
 
   -- a unit that waits is pending, and the other way round
-  pub pending_of : (at : ℕ) → IsWaiting numbers places at → IsPending store at
+  pub pending_of : (at : ℕ) → IsWaiting numbers key_slots at → IsPending store at
   pending_of at (n, is, not) =
       let key = key_at_place at n is in
-      (key.0, key.1, λ held. not (key_held keys places kept.right n key.0 key.2 held))
+      (key.0, key.1, λ held. not (key_held keys key_slots kept.right n key.0 key.2 held))
 
-  pub waiting_of : (at : ℕ) → IsPending store at → IsWaiting numbers places at
+  pub waiting_of : (at : ℕ) → IsPending store at → IsWaiting numbers key_slots at
   waiting_of at (key, has, not) =
       let number = number_at_place at key has in
-      (number.0, number.1, λ held. not (held_key keys places kept.right number.0 key number.2 held))
+      (number.0, number.1, λ held. not (held_key keys key_slots kept.right number.0 key number.2 held))
 
   -- so are the needed units one by one
-  pub needed_of : (target at : ℕ) → IsNeeded (zip ids outcomes) (IsWaiting numbers places) target at → IsNeededBy store target at
+  pub needed_of : (target at : ℕ) → IsNeeded (zip ids outcomes) (IsWaiting numbers key_slots) target at → IsNeededBy store target at
   needed_of target at needed =
-      needed_more (zip ids outcomes) (IsWaiting numbers places) (IsPending store) target pending_of at needed
+      needed_more (zip ids outcomes) (IsWaiting numbers key_slots) (IsPending store) target pending_of at needed
 
-  pub needed_from : (target at : ℕ) → IsNeededBy store target at → IsNeeded (zip ids outcomes) (IsWaiting numbers places) target at
+  pub needed_from : (target at : ℕ) → IsNeededBy store target at → IsNeeded (zip ids outcomes) (IsWaiting numbers key_slots) target at
   needed_from target at needed =
-      needed_more (zip ids outcomes) (IsPending store) (IsWaiting numbers places) target waiting_of at needed
+      needed_more (zip ids outcomes) (IsPending store) (IsWaiting numbers key_slots) target waiting_of at needed
 
   -- a unit whose number is due is due, and the other way round
-  pub due_of : (at : ℕ) → IsDueThere keys places out numbers at → IsDueAt store at
+  pub due_of : (at : ℕ) → IsDueThere keys key_slots out numbers at → IsDueAt store at
   due_of at (n, is, due) =
       let key = key_at_place at n is in
-      (key.0, key.1, due_for keys ids outcomes numbers places cached room out given released marked kept n key.0 key.2 (got_among numbers at (Some n) is) due)
+      (key.0, key.1, due_for keys ids outcomes numbers key_slots cached capacity out given released marked kept n key.0 key.2 (got_among numbers at (Some n) is) due)
 
-  pub due_there : (at : ℕ) → IsDueAt store at → IsDueThere keys places out numbers at
+  pub due_there : (at : ℕ) → IsDueAt store at → IsDueThere keys key_slots out numbers at
   due_there at (key, has, due) =
       let number = number_at_place at key has in
-      let from = due_from keys ids outcomes numbers places cached room out given released marked kept key due in
+      let from = due_from keys ids outcomes numbers key_slots cached capacity out given released marked kept key due in
       let same : from.0 ≡ number.0 = kept.right.one.trees from.0 number.0 key from.2 number.2 in
-      (number.0, number.1, subst (IsDueNumber keys places out) same from.3)
+      (number.0, number.1, subst (IsDueNumber keys key_slots out) same from.3)
 
   -- the number of a unit that is due is
   pub due_number : (at number : ℕ) → slice_get numbers at ≡ Some (Some number) → IsDueAt store at
-      → IsDueNumber keys places out number
+      → IsDueNumber keys key_slots out number
   due_number at number is due =
       let there = due_there at due in
-      subst (IsDueNumber keys places out)
+      subst (IsDueNumber keys key_slots out)
       (same_Some there.0 number (same_Some (Some there.0) (Some number) (sym there.1 ∙ is))) there.2
 
   -- where no needed unit of a pending one is due, the key of one is out
@@ -136,15 +136,15 @@ module _ {P : Type 0} {IsDecoded : InputValue P → P → Type 0} {IsOf : Key �
     where
       by_held : (key : Key) (n : ℕ) → tree_at keys n ≡ Some key → (Contains store.held key → IsAnyOutBy store target)
           → ((Contains store.held key → ⊥) → IsAnyOutBy store target)
-          → IsHeld places n ⊎ (IsHeld places n → ⊥) → IsAnyOutBy store target
-      by_held key n tree if_held if_not (inl held) = if_held (held_key keys places kept.right n key tree held)
-      by_held key n tree if_held if_not (inr not) = if_not (λ held. not (key_held keys places kept.right n key tree held))
+          → IsHeld key_slots n ⊎ (IsHeld key_slots n → ⊥) → IsAnyOutBy store target
+      by_held key n tree if_held if_not (inl held) = if_held (held_key keys key_slots kept.right n key tree held)
+      by_held key n tree if_held if_not (inr not) = if_not (λ held. not (key_held keys key_slots kept.right n key tree held))
 
       decide : (key : Key) → Contains (keys_of (zip ids outcomes)) (Some key) → (Contains store.held key → IsAnyOutBy store target)
           → ((Contains store.held key → ⊥) → IsAnyOutBy store target) → IsAnyOutBy store target
       decide key used if_held if_not =
           let number = stand_number keys numbers (keys_of (zip ids outcomes)) kept.stand key used in
-          by_held key number.0 number.2 if_held if_not (held_or_not places number.0)
+          by_held key number.0 number.2 if_held if_not (held_or_not key_slots number.0)
 
       by_out : (at : ℕ) (key : Key) → IsNeededBy store target at → HasKey store at key
           → (Contains store.held key → ⊥) → IsReady store.held key → (n : ℕ) → tree_at keys n ≡ Some key
@@ -156,7 +156,7 @@ module _ {P : Type 0} {IsDecoded : InputValue P → P → Type 0} {IsOf : Key �
           key,
           has,
           subst (Contains (map (λ (job : OutValue P). job.key) (jobs_for keys out))) (key_is keys n key tree)
-              (out_seen_key keys ids outcomes numbers places cached room out given released marked kept n among),
+              (out_seen_key keys ids outcomes numbers key_slots cached capacity out given released marked kept n among),
         ),
       )
       by_out at key needed has not is_ready n tree (inr free) =
@@ -166,7 +166,7 @@ module _ {P : Type 0} {IsDecoded : InputValue P → P → Type 0} {IsOf : Key �
             record {
               in_use = got_among (keys_of (zip ids outcomes)) at (Some key) has;
               awaited = not;
-              free = λ is. free (seen_out_key keys ids outcomes numbers places cached room out given released marked kept n key tree is);
+              free = λ is. free (seen_out_key keys ids outcomes numbers key_slots cached capacity out given released marked kept n key tree is);
               ready = is_ready;
             },
           ))
@@ -184,16 +184,16 @@ module _ {P : Type 0} {IsDecoded : InputValue P → P → Type 0} {IsOf : Key �
       none_is_not_some number.0 (sym (get_or_from_slice_get numbers at (Some number.0) None number.1) ∙ sym none)
 
   -- nor has one whose number isn't held
-  pub not_held : (at n : ℕ) → slice_get numbers at ≡ Some (Some n) → (IsHeld places n → ⊥) → (key : Key) → HasKey store at key
+  pub not_held : (at n : ℕ) → slice_get numbers at ≡ Some (Some n) → (IsHeld key_slots n → ⊥) → (key : Key) → HasKey store at key
       → Contains store.held key → ⊥
   not_held at n is not key has held =
       let number = number_at_place at key has in
       let same : number.0 ≡ n = same_Some number.0 n (same_Some (Some number.0) (Some n) (sym number.1 ∙ is)) in
-      not (key_held keys places kept.right n key (subst (λ m. tree_at keys m ≡ Some key) same number.2) held)
+      not (key_held keys key_slots kept.right n key (subst (λ m. tree_at keys m ≡ Some key) same number.2) held)
 
   -- and one whose number is held has a key that is
-  pub held_key_at : (at n : ℕ) → slice_get numbers at ≡ Some (Some n) → IsHeld places n
+  pub held_key_at : (at n : ℕ) → slice_get numbers at ≡ Some (Some n) → IsHeld key_slots n
       → (key : Key) × HasKey store at key × (tree_at keys n ≡ Some key) × Contains store.held key
   held_key_at at n is held =
       let key = key_at_place at n is in
-      (key.0, key.1, key.2, held_key keys places kept.right n key.0 key.2 held)
+      (key.0, key.1, key.2, held_key keys key_slots kept.right n key.0 key.2 held)

@@ -3,7 +3,7 @@ use Rattle.std.proofs.Common.{◌≡◌, refl, sym, ap, subst, ◌∙◌, ℕ, �
 use Rattle.std.proofs.lemmas.Option.{same_Some}
 use Rattle.std.proofs.lemmas.List.Elements.{All-weaker}
 use Rattle.h264_controls.specs.declared.request.Request.{Request}
-use Rattle.h264_controls.specs.declared.work.Work.{Work}
+use Rattle.h264_controls.specs.declared.request.RequestBody.{RequestBody}
 use Rattle.h264_controls.specs.References.{timestamp}
 use Rattle.unit_outcomes.specs.declared.outcome.Outcome.{Outcome}
 use Rattle.unit_outcomes.specs.declared.outcome.Outcome.TheVariants as outcomes
@@ -12,13 +12,13 @@ use Rattle.decode_jobs.specs.KeyMaps.{tree_at, tree_of, IsNodeOf}
 use Rattle.decode_jobs.specs.Nodes.{NodeOf}
 use Rattle.decode_jobs.specs.declared.input.Reference.{Reference}
 use Rattle.decode_jobs.specs.Inputs.{InputValue}
-use Rattle.decode_jobs.specs.Keys.{Key, works_of, named_by_all}
+use Rattle.decode_jobs.specs.Keys.{Key, bodies_of, named_by_all}
 use Rattle.picture_keys.specs.Known.{Known, key_of, key_of_outcome}
 use Rattle.picture_keys.specs.Decodable.{CanDecode, OutcomeCanDecode}
-use Rattle.held_pictures.specs.Places.{numbers_held}
-use Rattle.picture_store.specs.Places.{PlacesValue}
+use Rattle.held_pictures.specs.KeySlots.{numbers_held}
+use Rattle.picture_store.specs.KeySlots.{KeySlotsValue}
 use Rattle.picture_store.specs.Stores.{IsReady}
-use Rattle.picture_store.specs.Kept.{Trees, AreRight, keys_for}
+use Rattle.picture_store.specs.Stored.{Trees, AreRight, keys_for}
 use Rattle.picture_store.specs.Due.{AreHeld}
 use Rattle.picture_store.specs.Naming.{AreCovered, IsShown}
 use Rattle.picture_store.specs.Referenced.{AreInOrder, frames_named, frames_of, times_of}
@@ -29,7 +29,7 @@ use Rattle.picture_store.proofs.Entries.{IsKnown, all_known, covered, of_unit}
 use Rattle.picture_store.proofs.Shown.{IsOfItsUnit, all_there, shows_known, whole}
 use Rattle.picture_store.proofs.Referring.{there_in_order}
 
-module _ (keys : Trees) (key : ℕ) (node : NodeOf (List Work)) (is_node : IsNodeOf keys key node) (outcome : Outcome)
+module _ (keys : Trees) (key : ℕ) (node : NodeOf (List RequestBody)) (is_node : IsNodeOf keys key node) (outcome : Outcome)
     (plan : Plan) (plan_is : outcome ≡ outcomes.Plan plan) (known : Known) (has : HasKnown keys outcome key known) where
   can_decode : CanDecode known plan.requests
   can_decode = subst (OutcomeCanDecode known) plan_is has.decodes
@@ -44,40 +44,40 @@ module _ (keys : Trees) (key : ℕ) (node : NodeOf (List Work)) (is_node : IsNod
       (entries_are : entries ≡ node.entries) where
     pub enough : length units ≤ length entries
     enough =
-        let many = entries_many keys known node.work (works_of plan.requests) node.entries (named_by_all plan.requests) same_key in
+        let many = entries_many keys known node.content (bodies_of plan.requests) node.entries (named_by_all plan.requests) same_key in
         let same : length units ≡ length entries = ap length units_are ∙ (many ∙ sym (ap length entries_are)) in
         omega arith
 
-    module _ {P : Type 0} {IsDecoded : InputValue P → P → Type 0} {IsOf : Key → P → Type 0} (places : PlacesValue P) (right : AreRight IsDecoded IsOf keys places)
-        (ready : (tree : Key) × (tree_at keys key ≡ Some tree) × IsReady (keys_for keys (numbers_held places)) tree) where
-      held : AreHeld places node.entries
+    module _ {P : Type 0} {IsDecoded : InputValue P → P → Type 0} {IsOf : Key → P → Type 0} (key_slots : KeySlotsValue P) (right : AreRight IsDecoded IsOf keys key_slots)
+        (ready : (tree : Key) × (tree_at keys key ≡ Some tree) × IsReady (keys_for keys (numbers_held key_slots)) tree) where
+      held : AreHeld key_slots node.entries
       held =
-          are_held keys places right node.work node.entries is_node.live
-          (subst (λ tree. IsReady (keys_for keys (numbers_held places)) tree)
+          are_held keys key_slots right node.content node.entries is_node.live
+          (subst (λ tree. IsReady (keys_for keys (numbers_held key_slots)) tree)
           (same_Some ready.0 (tree_of keys node) (sym ready.1 ∙ is_node.tree)) ready.2)
 
       known_all : All (IsKnown known) (named_by_all plan.requests)
       known_all = all_known known plan.requests can_decode.named
 
-      pub units_covered : AreCovered places units entries
+      pub units_covered : AreCovered key_slots units entries
       units_covered =
-          subst (λ us. AreCovered places us entries) (sym units_are)
-          (subst (λ es. AreCovered places (named_by_all plan.requests) es) (sym entries_are)
-          (covered keys places right known node.work (works_of plan.requests) node.entries (named_by_all plan.requests) held
+          subst (λ us. AreCovered key_slots us entries) (sym units_are)
+          (subst (λ es. AreCovered key_slots (named_by_all plan.requests) es) (sym entries_are)
+          (covered keys key_slots right known node.content (bodies_of plan.requests) node.entries (named_by_all plan.requests) held
           same_key known_all))
 
       -- the references are pictures of the keys that are known of their units
-      of_units : (references : List (Reference P)) → All (IsShown places units entries) references
+      of_units : (references : List (Reference P)) → All (IsShown key_slots units entries) references
           → All (IsOfItsUnit IsOf known) references
       of_units references all =
-          All-weaker (IsShown places (named_by_all plan.requests) node.entries) (IsOfItsUnit IsOf known)
-          (of_unit keys places right known node.work (works_of plan.requests) node.entries (named_by_all plan.requests) held
+          All-weaker (IsShown key_slots (named_by_all plan.requests) node.entries) (IsOfItsUnit IsOf known)
+          (of_unit keys key_slots right known node.content (bodies_of plan.requests) node.entries (named_by_all plan.requests) held
           same_key known_all) references
-          (subst (λ us. All (IsShown places us node.entries) references) units_are
-          (subst (λ es. All (IsShown places units es) references) entries_are all))
+          (subst (λ us. All (IsShown key_slots us node.entries) references) units_are
+          (subst (λ es. All (IsShown key_slots units es) references) entries_are all))
 
       pub is_input : (references : List (Reference P)) (requests : List Request) (input : InputValue P)
-          → All (IsShown places units entries) references
+          → All (IsShown key_slots units entries) references
           → times_of references ≡ map timestamp (frames_named (frames_of plan.requests) units) → requests ≡ plan.requests
           → input ≡ record { requests = requests; references = references } → IsInputOf IsOf known outcome input
       is_input references requests input all times requests_are input_is =

@@ -12,8 +12,8 @@ use Rattle.std.specs.declared.cmp.Reverse.{Reverse}
 use Rattle.held_pictures.proofs.Members.{here, there, first_or_among}
 use Rattle.picture_store.specs.declared.job_out.JobOut.{JobOut}
 use Rattle.picture_store.specs.Due.{IsDueNumber, IsDueThere, IsNotDue}
-use Rattle.picture_store.specs.Kept.{Trees}
-use Rattle.picture_store.specs.Places.{PlacesValue}
+use Rattle.picture_store.specs.Stored.{Trees}
+use Rattle.picture_store.specs.KeySlots.{KeySlotsValue}
 use Rattle.picture_store.specs.Schedules.{AddsDue, IsQueue, IsQueued}
 
 module _ (old new : List (Reverse ℕ)) (first : ℕ) where
@@ -102,10 +102,10 @@ top_earliest queue top above at is =
     let all = All-from_recursion (λ (other : Reverse ℕ). is_lt (nat_cmp other.0 top.0) ≡ false) queue above in
     not_below at top.0 (All-contains (λ (other : Reverse ℕ). is_lt (nat_cmp other.0 top.0) ≡ false) queue (record { 0 = at }) all is)
 
-module _ {P : Type 0} (keys : Trees) (places : PlacesValue P) (out : List (JobOut P)) (numbers : List (Option ℕ)) where
+module _ {P : Type 0} (keys : Trees) (key_slots : KeySlotsValue P) (out : List (JobOut P)) (numbers : List (Option ℕ)) where
   -- nothing is added where none comes that is due
   pub adds_none : (Comes : ℕ → Type 0) (queue : List (Reverse ℕ))
-      → ((at : ℕ) → Comes at → IsDueThere keys places out numbers at → ⊥) → AddsDue keys places out numbers Comes queue queue
+      → ((at : ℕ) → Comes at → IsDueThere keys key_slots out numbers at → ⊥) → AddsDue keys key_slots out numbers Comes queue queue
   adds_none Comes queue none = record {
     ordered = λ is. is;
     stay = λ at is. is;
@@ -115,7 +115,7 @@ module _ {P : Type 0} (keys : Trees) (places : PlacesValue P) (out : List (JobOu
 
   -- a place that comes is added
   pub adds_one : (at : ℕ) (queue after : List (Reverse ℕ)) → (IsQueue queue → IsQueue after)
-      → IsPermutation ((record { 0 = at }) ∷ queue) after → AddsDue keys places out numbers (λ place. at ≡ place) queue after
+      → IsPermutation ((record { 0 = at }) ∷ queue) after → AddsDue keys key_slots out numbers (λ place. at ≡ place) queue after
   adds_one at queue after ordered moved = record {
     ordered = ordered;
     stay = pushed_stay queue after at moved;
@@ -125,9 +125,9 @@ module _ {P : Type 0} (keys : Trees) (places : PlacesValue P) (out : List (JobOu
 
   -- places that come after others are added to them
   pub adds_more : (First Second Comes : ℕ → Type 0) (queue next after : List (Reverse ℕ))
-      → AddsDue keys places out numbers First queue next → AddsDue keys places out numbers Second next after
+      → AddsDue keys key_slots out numbers First queue next → AddsDue keys key_slots out numbers Second next after
       → ((at : ℕ) → First at → Comes at) → ((at : ℕ) → Second at → Comes at)
-      → ((at : ℕ) → Comes at → First at ⊎ Second at) → AddsDue keys places out numbers Comes queue after
+      → ((at : ℕ) → Comes at → First at ⊎ Second at) → AddsDue keys key_slots out numbers Comes queue after
   adds_more First Second Comes queue next after one two first second either = record {
     ordered = λ is. two.ordered (one.ordered is);
     stay = λ at is. two.stay at (one.stay at is);
@@ -143,8 +143,8 @@ module _ {P : Type 0} (keys : Trees) (places : PlacesValue P) (out : List (JobOu
 
   -- the same places come
   pub adds_same : (First Comes : ℕ → Type 0) (queue after : List (Reverse ℕ)) → ((at : ℕ) → First at → Comes at)
-      → ((at : ℕ) → Comes at → First at) → AddsDue keys places out numbers First queue after
-      → AddsDue keys places out numbers Comes queue after
+      → ((at : ℕ) → Comes at → First at) → AddsDue keys key_slots out numbers First queue after
+      → AddsDue keys key_slots out numbers Comes queue after
   adds_same First Comes queue after to from adds = record {
     ordered = adds.ordered;
     stay = adds.stay;
@@ -153,8 +153,8 @@ module _ {P : Type 0} (keys : Trees) (places : PlacesValue P) (out : List (JobOu
   }
 
 -- a unit whose key isn't due isn't
-pub not_there : {P : Type 0} (keys : Trees) (places : PlacesValue P) (out : List (JobOut P)) (numbers : List (Option ℕ)) (at : ℕ) (number : Option ℕ)
-    → ((n : ℕ) → slice_get numbers at ≡ Some (Some n) → number ≡ Some n) → IsNotDue keys places out number
-    → IsDueThere keys places out numbers at → ⊥
-not_there keys places out numbers at number read not (n, n_is, due) =
-    subst (λ o. IfSome o (λ k. IsDueNumber keys places out k → ⊥)) (read n n_is) not due
+pub not_there : {P : Type 0} (keys : Trees) (key_slots : KeySlotsValue P) (out : List (JobOut P)) (numbers : List (Option ℕ)) (at : ℕ) (number : Option ℕ)
+    → ((n : ℕ) → slice_get numbers at ≡ Some (Some n) → number ≡ Some n) → IsNotDue keys key_slots out number
+    → IsDueThere keys key_slots out numbers at → ⊥
+not_there keys key_slots out numbers at number read not (n, n_is, due) =
+    subst (λ o. IfSome o (λ k. IsDueNumber keys key_slots out k → ⊥)) (read n n_is) not due

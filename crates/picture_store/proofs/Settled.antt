@@ -9,10 +9,10 @@ use Rattle.unit_outcomes.specs.declared.outcome.Outcome.{Outcome}
 use Rattle.picture_store.specs.declared.answers.Landing.{Landing}
 use Rattle.picture_store.specs.declared.answers.Landing.TheVariants.{Taken, Stale, Foreign}
 use Rattle.picture_store.specs.declared.job_out.JobOut.{JobOut}
-use Rattle.held_pictures.specs.Places.{place_at}
-use Rattle.picture_store.specs.Places.{PlacesValue, ArePlaced, held_or}
+use Rattle.held_pictures.specs.KeySlots.{place_at}
+use Rattle.picture_store.specs.KeySlots.{KeySlotsValue, ArePlaced, held_or}
 use Rattle.picture_store.specs.Filling.{IsFilled}
-use Rattle.picture_store.specs.Kept.{Trees, numbers_out, IsKept}
+use Rattle.picture_store.specs.Stored.{Trees, numbers_out, IsSound}
 use Rattle.picture_store.specs.Due.{IsHeld, IsNotDue}
 use Rattle.picture_store.specs.Settled.{NeedsNone, AreSettled}
 use Rattle.held_pictures.proofs.Members.{here, there, nowhere, first_or_among}
@@ -23,28 +23,28 @@ two_places : {P : Type 0} (o : Option (Option P)) (picture : P) → o ≡ Some (
 two_places o picture held awaited = cc
 
 -- what needs no job isn't due
-pub not_due : {P : Type 0} (keys : Trees) (places : PlacesValue P) (out : List (JobOut P)) (number : Option ℕ) → NeedsNone places out number
-    → IsNotDue keys places out number
-not_due keys places out None needs = search rules
-not_due keys places out (Some number) needs = λ due. elim needs [
-  | inl held ↦ two_places (place_at places number) held.0 held.1 due.awaited
+pub not_due : {P : Type 0} (keys : Trees) (key_slots : KeySlotsValue P) (out : List (JobOut P)) (number : Option ℕ) → NeedsNone key_slots out number
+    → IsNotDue keys key_slots out number
+not_due keys key_slots out None needs = search rules
+not_due keys key_slots out (Some number) needs = λ due. elim needs [
+  | inl held ↦ two_places (place_at key_slots number) held.0 held.1 due.awaited
   | inr is ↦ due.free is
 ]
 
 -- so none of those that are settled is
-pub none_due_before : {P : Type 0} (keys : Trees) (places : PlacesValue P) (out : List (JobOut P)) (numbers : List (Option ℕ)) (count : ℕ)
-    → AreSettled places out numbers count → All (IsNotDue keys places out) (take count numbers)
-none_due_before keys places out numbers count are = λ k d within. not_due keys places out _ (are.1 k d within)
+pub none_due_before : {P : Type 0} (keys : Trees) (key_slots : KeySlotsValue P) (out : List (JobOut P)) (numbers : List (Option ℕ)) (count : ℕ)
+    → AreSettled key_slots out numbers count → All (IsNotDue keys key_slots out) (take count numbers)
+none_due_before keys key_slots out numbers count are = λ k d within. not_due keys key_slots out _ (are.1 k d within)
 
 -- none is settled before the first unit
-pub none_settled : {P : Type 0} (places : PlacesValue P) (out : List (JobOut P)) (numbers : List (Option ℕ)) → AreSettled places out numbers 0
-none_settled places out numbers = (omega arith, λ k d within. absurd (omega (arith, within)))
+pub none_settled : {P : Type 0} (key_slots : KeySlotsValue P) (out : List (JobOut P)) (numbers : List (Option ℕ)) → AreSettled key_slots out numbers 0
+none_settled key_slots out numbers = (omega arith, λ k d within. absurd (omega (arith, within)))
 
 -- what needs no job needs none where it stays so for each unit
-pub settled_stay : {P : Type 0} (places more : PlacesValue P) (out left : List (JobOut P)) (numbers : List (Option ℕ)) (count : ℕ)
-    → ((number : Option ℕ) → Contains numbers number → NeedsNone places out number → NeedsNone more left number)
-    → AreSettled places out numbers count → AreSettled more left numbers count
-settled_stay places more out left numbers count stays are = (
+pub settled_stay : {P : Type 0} (key_slots more : KeySlotsValue P) (out left : List (JobOut P)) (numbers : List (Option ℕ)) (count : ℕ)
+    → ((number : Option ℕ) → Contains numbers number → NeedsNone key_slots out number → NeedsNone more left number)
+    → AreSettled key_slots out numbers count → AreSettled more left numbers count
+settled_stay key_slots more out left numbers count stays are = (
   are.0,
   λ k d within.
       stays _ (Contains-take numbers count _ (Contains-get_or (take count numbers) k d within)) (are.1 k d within),
@@ -88,12 +88,12 @@ not_same a b differ same =
     cc
 
 -- a job more
-pub settled_more : {P : Type 0} (places : PlacesValue P) (out : List (JobOut P)) (job : JobOut P) (more : List (JobOut P)) (numbers : List (Option ℕ)) (count : ℕ)
-    → more ≡ out ++ job ∷ [] → AreSettled places out numbers count → AreSettled places more numbers count
-settled_more {P = P} places out job more numbers count is are =
-    subst (λ jobs. AreSettled places jobs numbers count) (sym is) (settled_stay places places out (out ++ job ∷ []) numbers count stays are)
+pub settled_more : {P : Type 0} (key_slots : KeySlotsValue P) (out : List (JobOut P)) (job : JobOut P) (more : List (JobOut P)) (numbers : List (Option ℕ)) (count : ℕ)
+    → more ≡ out ++ job ∷ [] → AreSettled key_slots out numbers count → AreSettled key_slots more numbers count
+settled_more {P = P} key_slots out job more numbers count is are =
+    subst (λ jobs. AreSettled key_slots jobs numbers count) (sym is) (settled_stay key_slots key_slots out (out ++ job ∷ []) numbers count stays are)
   where
-    stays : (number : Option ℕ) → Contains numbers number → NeedsNone places out number → NeedsNone places (out ++ job ∷ []) number
+    stays : (number : Option ℕ) → Contains numbers number → NeedsNone key_slots out number → NeedsNone key_slots (out ++ job ∷ []) number
     stays None among needs = search rules
     stays (Some number) among needs = elim needs [
       | inl held ↦ inl held
@@ -102,13 +102,13 @@ settled_more {P = P} places out job more numbers count is are =
           (Contains-append_left (numbers_out out) (numbers_out (job ∷ [])) number one))
     ]
 
-module _ {P : Type 0} {IsDecoded : InputValue P → P → Type 0} {IsOf : Key → P → Type 0} (keys : Trees) (ids : List ℕ) (outcomes : List Outcome) (numbers : List (Option ℕ)) (places : PlacesValue P)
-    (cached : List (ℕ × P)) (out : List (JobOut P)) (kept : IsKept IsDecoded IsOf keys ids outcomes numbers places cached out)
+module _ {P : Type 0} {IsDecoded : InputValue P → P → Type 0} {IsOf : Key → P → Type 0} (keys : Trees) (ids : List ℕ) (outcomes : List Outcome) (numbers : List (Option ℕ)) (key_slots : KeySlotsValue P)
+    (cached : List (ℕ × P)) (out : List (JobOut P)) (kept : IsSound IsDecoded IsOf keys ids outcomes numbers key_slots cached out)
     (at : ℕ) (other : JobOut P) (stands : other ≡ slice_index_or out at other) where
-  module _ (more : PlacesValue P) (holds : (number : ℕ) → IsHeld places number → IsHeld more number)
+  module _ (more : KeySlotsValue P) (holds : (number : ℕ) → IsHeld key_slots number → IsHeld more number)
       (new : Contains numbers (Some other.key) → IsHeld more other.key) where
     stays_there : (b : Bool) (number : ℕ) → b ≡ (other.key == number) → Contains numbers (Some number)
-        → IsHeld places number ⊎ Contains (numbers_out out) number
+        → IsHeld key_slots number ⊎ Contains (numbers_out out) number
         → IsHeld more number ⊎ Contains (numbers_out (remove out at)) number
     stays_there true number same among needs =
         let one : other.key ≡ number = eqb-true other.key number (sym same) in
@@ -118,33 +118,33 @@ module _ {P : Type 0} {IsDecoded : InputValue P → P → Type 0} {IsOf : Key �
       | inr one ↦ inr (out_still out at number other stands (not_same other.key number same) one)
     ]
 
-    stays : (number : Option ℕ) → Contains numbers number → NeedsNone places out number → NeedsNone more (remove out at) number
+    stays : (number : Option ℕ) → Contains numbers number → NeedsNone key_slots out number → NeedsNone more (remove out at) number
     stays None among needs = search rules
     stays (Some number) among needs = stays_there (other.key == number) number refl among needs
 
   -- a job that lands
-  pub settled_landed : (picture : P) (landing : Landing) (more : PlacesValue P) (left : List (JobOut P)) (count : ℕ)
-      → left ≡ remove out at → IsFilled places other.key picture landing more
-      → AreSettled places out numbers count → AreSettled more left numbers count
+  pub settled_landed : (picture : P) (landing : Landing) (more : KeySlotsValue P) (left : List (JobOut P)) (count : ℕ)
+      → left ≡ remove out at → IsFilled key_slots other.key picture landing more
+      → AreSettled key_slots out numbers count → AreSettled more left numbers count
   settled_landed picture Foreign more left count gone filled are = absurd filled
   settled_landed picture Stale more left count gone filled are =
       subst (λ jobs. AreSettled more jobs numbers count) (sym gone)
       (subst (λ p. AreSettled p (remove out at) numbers count) (sym filled.1)
-      (settled_stay places places out (remove out at) numbers count
-      (stays places (λ number held. held)
-      (λ among. held_place (place_at places other.key) ((kept.used other.key).1 among) filled.0)) are))
+      (settled_stay key_slots key_slots out (remove out at) numbers count
+      (stays key_slots (λ number held. held)
+      (λ among. held_place (place_at key_slots other.key) ((kept.used other.key).1 among) filled.0)) are))
   settled_landed picture Taken more left count gone filled are =
       subst (λ jobs. AreSettled more jobs numbers count) (sym gone)
-      (settled_stay places more out (remove out at) numbers count
+      (settled_stay key_slots more out (remove out at) numbers count
       (stays more
       (λ number held.
-      let still : (p : P) × ((if other.key == number then Some (Some picture) else place_at places number) ≡ Some (Some p)) =
-      held_still (other.key == number) (place_at places number) picture held.0 held.1 in
+      let still : (p : P) × ((if other.key == number then Some (Some picture) else place_at key_slots number) ≡ Some (Some p)) =
+      held_still (other.key == number) (place_at key_slots number) picture held.0 held.1 in
       (still.0, filled.1 number ∙ still.1))
       (λ among. (
         picture,
         filled.1 other.key
-            ∙ ap (λ b. if b then Some (Some picture) else place_at places other.key) (eq-eqb other.key other.key refl),
+            ∙ ap (λ b. if b then Some (Some picture) else place_at key_slots other.key) (eq-eqb other.key other.key refl),
       ))) are)
 
 -- the first units of a list, where what comes after some more of them changes
@@ -157,21 +157,21 @@ take_front (suc m) (suc n) (x ∷ xs) ys below within =
 
 -- of the units in front of a place as many need none as before, where pictures that were held stay
 -- held
-pub settled_front : {P : Type 0} (places more : PlacesValue P) (cached : List (ℕ × P)) (out : List (JobOut P)) (numbers later : List (Option ℕ))
-    (count from least : ℕ) → least ≤ count → least ≤ from → from ≤ length numbers → AreSettled places out numbers count
-    → ArePlaced (take from numbers ++ later) places cached more → AreSettled more out (take from numbers ++ later) least
-settled_front {P = P} places more cached out numbers later count from least in_count in_front within are placed =
-    settled_stay places more out out (take from numbers ++ later) least stays
+pub settled_front : {P : Type 0} (key_slots more : KeySlotsValue P) (cached : List (ℕ × P)) (out : List (JobOut P)) (numbers later : List (Option ℕ))
+    (count from least : ℕ) → least ≤ count → least ≤ from → from ≤ length numbers → AreSettled key_slots out numbers count
+    → ArePlaced (take from numbers ++ later) key_slots cached more → AreSettled more out (take from numbers ++ later) least
+settled_front {P = P} key_slots more cached out numbers later count from least in_count in_front within are placed =
+    settled_stay key_slots more out out (take from numbers ++ later) least stays
     (omega (arith, in_front, within, length-append (take from numbers) later, length-take-le from numbers within), still)
   where
-    fewer : All (NeedsNone places out) (take least (take count numbers ++ []))
+    fewer : All (NeedsNone key_slots out) (take least (take count numbers ++ []))
     fewer =
-        All-take (NeedsNone places out) least (take count numbers ++ [])
-        (subst (All (NeedsNone places out)) (sym (append-nil (take count numbers))) are.1)
+        All-take (NeedsNone key_slots out) least (take count numbers ++ [])
+        (subst (All (NeedsNone key_slots out)) (sym (append-nil (take count numbers))) are.1)
 
-    still : All (NeedsNone places out) (take least (take from numbers ++ later))
+    still : All (NeedsNone key_slots out) (take least (take from numbers ++ later))
     still =
-        subst (All (NeedsNone places out))
+        subst (All (NeedsNone key_slots out))
         (take_front least count numbers [] in_count are.0 ∙ sym (take_front least from numbers later in_front within)) fewer
 
     carries : (place other : Option (Option P)) (cached : Option P) (held : P) → place ≡ Some (Some held)
@@ -180,14 +180,14 @@ settled_front {P = P} places more cached out numbers later count from least in_c
     carries (Some None) other cached held is carried = absurd cc
     carries (Some (Some picture)) other cached held is carried = (picture, carried)
 
-    stays : (number : Option ℕ) → Contains (take from numbers ++ later) number → NeedsNone places out number
+    stays : (number : Option ℕ) → Contains (take from numbers ++ later) number → NeedsNone key_slots out number
         → NeedsNone more out number
     stays None among needs = search rules
     stays (Some number) among needs = elim needs [
       | inl held ↦
           inl (elim (placed number) [
             | inl used ↦
-                carries (place_at places number) (place_at more number) (lookup (λ other. number == other) cached) held.0 held.1 used.1
+                carries (place_at key_slots number) (place_at more number) (lookup (λ other. number == other) cached) held.0 held.1 used.1
             | inr unused ↦ absurd (unused.0 among)
           ])
       | inr one ↦ inr one

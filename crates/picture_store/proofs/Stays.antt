@@ -13,9 +13,9 @@ use Rattle.decode_jobs.specs.Keys.{Key}
 use Rattle.picture_keys.specs.Known.{keys_of}
 use Rattle.picture_keys.specs.Numbered.{StandsFor, AllStandFor}
 use Rattle.picture_store.specs.declared.job_out.JobOut.{JobOut}
-use Rattle.held_pictures.specs.Places.{place_at, numbers_held}
-use Rattle.picture_store.specs.Places.{PlacesValue}
-use Rattle.picture_store.specs.Kept.{Trees, key_for, keys_for, jobs_for, IsRight, IsJobRight, IsKept, IsStored, KeepsStored}
+use Rattle.held_pictures.specs.KeySlots.{place_at, numbers_held}
+use Rattle.picture_store.specs.KeySlots.{KeySlotsValue}
+use Rattle.picture_store.specs.Stored.{Trees, key_for, keys_for, jobs_for, IsRight, IsJobRight, IsSound, IsStored, KeepsStored}
 use Rattle.held_pictures.proofs.Members.{here, there, nowhere, first_or_among, among_map, among_source, map_same, All-from_contains}
 use Rattle.held_pictures.proofs.Held.{held_found}
 use Rattle.picture_store.proofs.Viewed.{Marked, viewed}
@@ -97,8 +97,8 @@ pub key_stays : (keys more : Trees) (number : ℕ) (key : Key) → tree_at keys 
     → tree_at more number ≡ Some key → key_for more number ≡ key_for keys number
 key_stays keys more number key old new = key_is more number key new ∙ sym (key_is keys number key old)
 
-module _ {P : Type 0} {IsDecoded : InputValue P → P → Type 0} {IsOf : Key → P → Type 0} (keys more : Trees) (ids : List ℕ) (outcomes : List Outcome) (numbers : List (Option ℕ)) (places : PlacesValue P)
-    (cached : List (ℕ × P)) (out : List (JobOut P)) (kept : IsKept IsDecoded IsOf keys ids outcomes numbers places cached out)
+module _ {P : Type 0} {IsDecoded : InputValue P → P → Type 0} {IsOf : Key → P → Type 0} (keys more : Trees) (ids : List ℕ) (outcomes : List Outcome) (numbers : List (Option ℕ)) (key_slots : KeySlotsValue P)
+    (cached : List (ℕ × P)) (out : List (JobOut P)) (kept : IsSound IsDecoded IsOf keys ids outcomes numbers key_slots cached out)
     (stay : KeepsStored numbers cached out keys more) where
   right_stays : (number : ℕ) (picture : P) → IsStored numbers cached out number → IsRight IsDecoded IsOf keys number picture
       → IsRight IsDecoded IsOf more number picture
@@ -114,16 +114,16 @@ module _ {P : Type 0} {IsDecoded : InputValue P → P → Type 0} {IsOf : Key �
   live_stays number key stored live = key_stays keys more number key live (stay number key stored live)
 
   -- a place is that of a unit's key
-  place_stored : (number : ℕ) (picture : Option P) → place_at places number ≡ Some picture
+  place_stored : (number : ℕ) (picture : Option P) → place_at key_slots number ≡ Some picture
       → IsStored numbers cached out number
   place_stored number picture is = inl ((kept.used number).0 (ap is_some is))
 
-  pub held_stay : keys_for more (numbers_held places) ≡ keys_for keys (numbers_held places)
+  pub held_stay : keys_for more (numbers_held key_slots) ≡ keys_for keys (numbers_held key_slots)
   held_stay =
-      map_same (key_for keys) (key_for more) (numbers_held places)
+      map_same (key_for keys) (key_for more) (numbers_held key_slots)
       (λ number is.
-      let found : (picture : P) × (place_at places number ≡ Some (Some picture)) =
-      held_found places number is in
+      let found : (picture : P) × (place_at key_slots number ≡ Some (Some picture)) =
+      held_found key_slots number is in
       for_stays number found.0 (place_stored number (Some found.0) found.1) (kept.right.held number found.0 found.1))
 
   stored_right : (number : ℕ) → Contains (numbers_of cached) number → (picture : P) × IsRight IsDecoded IsOf keys number picture
@@ -149,7 +149,7 @@ module _ {P : Type 0} {IsDecoded : InputValue P → P → Type 0} {IsOf : Key �
       (let right = All-contains (IsJobRight IsDecoded IsOf keys) out job kept.jobs is in
       live_stays job.key right.0 (job_stored job is) right.1))
 
-  pub kept_stays : IsKeyMap more → IsKept IsDecoded IsOf more ids outcomes numbers places cached out
+  pub kept_stays : IsKeyMap more → IsSound IsDecoded IsOf more ids outcomes numbers key_slots cached out
   kept_stays one = record {
     right = record {
       one = one;
@@ -170,6 +170,6 @@ module _ {P : Type 0} {IsDecoded : InputValue P → P → Type 0} {IsOf : Key �
   }
 
   -- what contracts see stays
-  pub viewed_stays : (room given : ℕ) (released : List P) (marked : Marked) → viewed more ids outcomes numbers places cached room out given released marked
-      ≡ viewed keys ids outcomes numbers places cached room out given released marked
-  viewed_stays room given released marked = rw (held_stay, cached_stay, out_stay) refl
+  pub viewed_stays : (capacity given : ℕ) (released : List P) (marked : Marked) → viewed more ids outcomes numbers key_slots cached capacity out given released marked
+      ≡ viewed keys ids outcomes numbers key_slots cached capacity out given released marked
+  viewed_stays capacity given released marked = rw (held_stay, cached_stay, out_stay) refl

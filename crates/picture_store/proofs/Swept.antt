@@ -10,7 +10,7 @@ use Rattle.held_pictures.specs.Counting.{once_if, times, times_in}
 use Rattle.held_pictures.proofs.Counts.{counted_in, some_counted}
 use Rattle.held_pictures.proofs.Members.{here, there}
 use Rattle.picture_store.specs.declared.job_out.JobOut.{JobOut}
-use Rattle.picture_store.specs.Kept.{AreSwept, IsStored, Trees}
+use Rattle.picture_store.specs.Stored.{AreSwept, IsStored, Trees}
 
 pub root_stays : (r : Result (Unit {0}) AllocError) (old new : Trees) (roots : List ℕ) → OnOk r (IsSwept old roots new)
     → OnErr r (new ≡ old) → (number : ℕ) (key : Key) → Contains roots number → tree_at old number ≡ Some key

@@ -9,14 +9,14 @@ use Rattle.std.proofs.lemmas.List.Elements.{Contains-append_left, Contains-appen
 use Rattle.std.proofs.lemmas.Map.Views.{exact_unsigned_eq, Contains-from_lookup}
 use Rattle.held_pictures.specs.Left.{IsLeft, ArePut}
 use Rattle.held_pictures.specs.Counting.{once_at, times, times_in}
-use Rattle.held_pictures.specs.Places.{AreSame, IsTakenUp, slot_at, place_of, place_at, uses_at, numbers_held, kept_or}
+use Rattle.held_pictures.specs.KeySlots.{AreSame, IsTakenUp, slot_at, place_of, place_at, uses_at, numbers_held, kept_or}
 use Rattle.held_pictures.specs.Going.{IsHeldBefore}
 use Rattle.held_pictures.proofs.Members.{among_map, among_source}
 use Rattle.held_pictures.proofs.Slots.{place_used, place_unused, used_some}
 use Rattle.held_pictures.proofs.Going.{left_among_same, left_stays}
 use Rattle.held_pictures.proofs.Held.{held_found, found_held, held_rising}
 use Rattle.held_pictures.proofs.Counts.{counted_some, some_counted, counted_in}
-use Rattle.picture_store.specs.Places.{PlacesValue, carried, held_or}
+use Rattle.picture_store.specs.KeySlots.{KeySlotsValue, carried, held_or}
 use Rattle.picture_store.specs.Recounts.{IsCountable, IsRecounted}
 
 times_all : (number : ℕ) (front goes back : List (Option ℕ))
@@ -45,50 +45,50 @@ not_found : {X : Type 0} (o : Option X) → ((x : X) → o ≡ Some x → ⊥) �
 not_found None none = refl
 not_found (Some x) none = absurd (none x refl)
 
-module _ {P : Type 0} (places taken : PlacesValue P) (cached : List (ℕ × P)) (front goes back later : List (Option ℕ)) (leaving : List ℕ)
-    (countable : IsCountable places cached front goes back leaving)
-    (up : (number : ℕ) → IsTakenUp places cached (times number later) taken number) where
-  used_before : (number : ℕ) → 0 < times number goes → 0 < uses_at places number
+module _ {P : Type 0} (key_slots taken : KeySlotsValue P) (cached : List (ℕ × P)) (front goes back later : List (Option ℕ)) (leaving : List ℕ)
+    (countable : IsCountable key_slots cached front goes back leaving)
+    (up : (number : ℕ) → IsTakenUp key_slots cached (times number later) taken number) where
+  used_before : (number : ℕ) → 0 < times number goes → 0 < uses_at key_slots number
   used_before number some = omega (arith, some, countable.counted number, times_all number front goes back)
 
-  cached_none : (number : ℕ) → IsSome (place_at places number) → lookup (λ other. number == other) cached ≡ None
+  cached_none : (number : ℕ) → IsSome (place_at key_slots number) → lookup (λ other. number == other) cached ≡ None
   cached_none number some =
       not_found (lookup (λ other. number == other) cached)
       (λ picture is.
-      countable.apart number (used_some places number some)
+      countable.apart number (used_some key_slots number some)
       (among_map (λ (pair : ℕ × P). pair.0) cached (number, picture)
       (Contains-from_lookup exact_unsigned_eq number picture cached is)))
 
   -- the place of a key in use, once those that come are counted
-  taken_place : (number : ℕ) → 0 < uses_at places number → place_at taken number ≡ Some (slot_at places number).picture
+  taken_place : (number : ℕ) → 0 < uses_at key_slots number → place_at taken number ≡ Some (slot_at key_slots number).picture
   taken_place number used =
       (up number).place (omega (arith, used, (up number).uses))
       ∙ ap (λ (place : Option (Option P)). Some (kept_or place (lookup (λ other. number == other) cached)))
-      (place_used (slot_at places number) used)
+      (place_used (slot_at key_slots number) used)
 
-  pub held_before : IsHeldBefore (numbers_held places) leaving taken
+  pub held_before : IsHeldBefore (numbers_held key_slots) leaving taken
   held_before = record {
-    rising = held_rising places;
+    rising = held_rising key_slots;
     pictured = λ number is.
-        let held = held_found places number is in
-        let used = used_some places number (ap is_some held.1) in (
+        let held = held_found key_slots number is in
+        let used = used_some key_slots number (ap is_some held.1) in (
           held.0,
-          taken_place number used ∙ sym (place_used (slot_at places number) used) ∙ held.1,
+          taken_place number used ∙ sym (place_used (slot_at key_slots number) used) ∙ held.1,
         );
     among = λ number picture leaves is.
-        let used : 0 < uses_at places number =
+        let used : 0 < uses_at key_slots number =
         used_before number (omega (arith, counted_in number leaving leaves, countable.leave number)) in
-        found_held places number picture
-        (place_used (slot_at places number) used ∙ (sym (taken_place number used) ∙ is));
+        found_held key_slots number picture
+        (place_used (slot_at key_slots number) used ∙ (sym (taken_place number used) ∙ is));
   }
 
   module _ (left : List (ℕ × P)) (leaves : IsLeft (λ number. Contains later (Some number)) (numbers_of cached) (numbers_of left))
       (left_pairs : (number : ℕ) (picture : P) → Contains left (number, picture) → Contains cached (number, picture))
-      (new : PlacesValue P) (uses : (number : ℕ) → uses_at new number + times_in number leaving ≡ uses_at taken number)
+      (new : KeySlotsValue P) (uses : (number : ℕ) → uses_at new number + times_in number leaving ≡ uses_at taken number)
       (stay : (number : ℕ) → 0 < uses_at new number → place_at new number ≡ place_at taken number)
-      (room : ℕ) (more : List (ℕ × P)) (gone : List ℕ)
-      (go : IsLeft (λ number. IsSome (place_at new number)) (numbers_held places) gone)
-      (lost : ℕ) (puts : ArePut room gone (numbers_of left) (numbers_of more) lost)
+      (capacity : ℕ) (more : List (ℕ × P)) (gone : List ℕ)
+      (go : IsLeft (λ number. IsSome (place_at new number)) (numbers_held key_slots) gone)
+      (lost : ℕ) (puts : ArePut capacity gone (numbers_of left) (numbers_of more) lost)
       (those : (number : ℕ) (picture : P) → Contains more (number, picture)
       → Contains left (number, picture) ⊎ ((place_at taken number ≡ Some (Some picture)) × (uses_at new number ≡ 0))) where
     counted : (number : ℕ) → uses_at new number ≡ times number (front ++ later ++ back)
@@ -110,7 +110,7 @@ module _ {P : Type 0} (places taken : PlacesValue P) (cached : List (ℕ × P)) 
     is_named number used = some_counted number (front ++ later ++ back) (omega (arith, counted number, used))
 
     placed_by : (number n : ℕ) → uses_at new number ≡ n
-        → (Contains (front ++ later ++ back) (Some number) × (place_at new number ≡ Some (carried places cached number)))
+        → (Contains (front ++ later ++ back) (Some number) × (place_at new number ≡ Some (carried key_slots cached number)))
         ⊎ ((Contains (front ++ later ++ back) (Some number) → ⊥) × (place_at new number ≡ None))
     placed_by number zero is =
         inr (λ named. absurd (omega (arith, is, is_used number named)), place_unused (slot_at new number) is)
@@ -121,7 +121,7 @@ module _ {P : Type 0} (places taken : PlacesValue P) (cached : List (ℕ × P)) 
           stay number used
               ∙ ((up number).place (omega (arith, used, uses number))
               ∙ ap (λ (picture : Option P). Some picture)
-              (kept_held (place_at places number) (lookup (λ other. number == other) cached) (cached_none number))),
+              (kept_held (place_at key_slots number) (lookup (λ other. number == other) cached) (cached_none number))),
         )
 
     leaves_all : IsLeft (λ number. Contains (front ++ later ++ back) (Some number)) (numbers_of cached) (numbers_of left)
@@ -130,7 +130,7 @@ module _ {P : Type 0} (places taken : PlacesValue P) (cached : List (ℕ × P)) 
         (numbers_of cached) (numbers_of left)
         (λ number among is. Contains-append_left (front ++ later) back (Some number) (Contains-append_right front later (Some number) is))
         (λ number among is.
-        let unused : (0 < uses_at places number) → ⊥ = λ used. countable.apart number used among in
+        let unused : (0 < uses_at key_slots number) → ⊥ = λ used. countable.apart number used among in
         some_counted number later
         (omega (
           arith,
@@ -158,14 +158,14 @@ module _ {P : Type 0} (places taken : PlacesValue P) (cached : List (ℕ × P)) 
         (subst (λ n. Contains more (n, pair.0.1)) pair.2 pair.1)
 
     was_held : (number : ℕ) (picture : P) → place_at taken number ≡ Some (Some picture) → uses_at new number ≡ 0
-        → place_at places number ≡ Some (Some picture)
+        → place_at key_slots number ≡ Some (Some picture)
     was_held number picture is none =
         let taken_used : 0 < uses_at taken number = used_some taken number (ap is_some is) in
-        let used : 0 < uses_at places number =
+        let used : 0 < uses_at key_slots number =
         used_before number (omega (arith, taken_used, uses number, none, countable.leave number)) in
-        place_used (slot_at places number) used ∙ (sym (taken_place number used) ∙ is)
+        place_used (slot_at key_slots number) used ∙ (sym (taken_place number used) ∙ is)
 
-    pub recounted : IsRecounted places cached room (front ++ later ++ back) new more lost
+    pub recounted : IsRecounted key_slots cached capacity (front ++ later ++ back) new more lost
     recounted = record {
       counted = counted;
       apart = apart;
@@ -184,10 +184,10 @@ module _ {P : Type 0} (places taken : PlacesValue P) (cached : List (ℕ × P)) 
     }
 
 -- the same of places whose slots are the same
-pub recounted_same : {P : Type 0} (old grown : PlacesValue P) (cached : List (ℕ × P)) (room : ℕ) (numbers : List (Option ℕ)) (new : PlacesValue P)
-    (more : List (ℕ × P)) (lost : ℕ) → AreSame old grown → IsRecounted grown cached room numbers new more lost
-    → IsRecounted old cached room numbers new more lost
-recounted_same old grown cached room numbers new more lost same is = record {
+pub recounted_same : {P : Type 0} (old grown : KeySlotsValue P) (cached : List (ℕ × P)) (capacity : ℕ) (numbers : List (Option ℕ)) (new : KeySlotsValue P)
+    (more : List (ℕ × P)) (lost : ℕ) → AreSame old grown → IsRecounted grown cached capacity numbers new more lost
+    → IsRecounted old cached capacity numbers new more lost
+recounted_same old grown cached capacity numbers new more lost same is = record {
   counted = is.counted;
   apart = is.apart;
   placed = λ number.
@@ -215,12 +215,12 @@ recounted_same old grown cached room numbers new more lost same is = record {
 }
 
 -- the same slots count what is found in its parts
-pub countable : {P : Type 0} (places grown : PlacesValue P) (cached : List (ℕ × P)) (numbers : List (Option ℕ)) (from to : ℕ) (leaving : List ℕ)
-    → from ≤ to → AreSame places grown → ((number : ℕ) → uses_at places number ≡ times number numbers)
-    → ((number : ℕ) → 0 < uses_at places number → Contains (numbers_of cached) number → ⊥)
+pub countable : {P : Type 0} (key_slots grown : KeySlotsValue P) (cached : List (ℕ × P)) (numbers : List (Option ℕ)) (from to : ℕ) (leaving : List ℕ)
+    → from ≤ to → AreSame key_slots grown → ((number : ℕ) → uses_at key_slots number ≡ times number numbers)
+    → ((number : ℕ) → 0 < uses_at key_slots number → Contains (numbers_of cached) number → ⊥)
     → ((number : ℕ) → times_in number leaving ≡ times number (take (to - from) (drop from numbers)))
     → IsCountable grown cached (take from numbers) (take (to - from) (drop from numbers)) (drop to numbers) leaving
-countable places grown cached numbers from to leaving ordered same counted apart leave = record {
+countable key_slots grown cached numbers from to leaving ordered same counted apart leave = record {
   counted = λ number.
       ap (λ slot. slot.uses) (same.slots number)
       ∙ (counted number ∙ ap (times number) (in_three from to numbers ordered));

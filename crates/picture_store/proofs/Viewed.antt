@@ -5,9 +5,9 @@ use Rattle.unit_outcomes.specs.declared.outcome.Outcome.{Outcome}
 use Rattle.decode_jobs.specs.Keys.{Key}
 use Rattle.picture_store.specs.declared.job_out.JobOut.{JobOut}
 use Rattle.picture_store.specs.Stores.{OutValue, StoreValue}
-use Rattle.held_pictures.specs.Places.{numbers_held, pictures_held}
-use Rattle.picture_store.specs.Places.{PlacesValue}
-use Rattle.picture_store.specs.Kept.{Trees, key_for, keys_for, jobs_for}
+use Rattle.held_pictures.specs.KeySlots.{numbers_held, pictures_held}
+use Rattle.picture_store.specs.KeySlots.{KeySlotsValue}
+use Rattle.picture_store.specs.Stored.{Trees, key_for, keys_for, jobs_for}
 
 -- the marked keys as contracts see them
 abbrev pub Marked : Type 0
@@ -19,16 +19,16 @@ module _ {P : Type 0} where
   seen keys job = record { number = job.number; key = key_for keys job.key; input = job.input }
 
   -- a store as contracts see it
-  abbrev pub viewed : Trees → List ℕ → List Outcome → List (Option ℕ) → PlacesValue P → List (ℕ × P) → ℕ → List (JobOut P) → ℕ
+  abbrev pub viewed : Trees → List ℕ → List Outcome → List (Option ℕ) → KeySlotsValue P → List (ℕ × P) → ℕ → List (JobOut P) → ℕ
       → List P → Marked → StoreValue P
-  viewed keys ids outcomes numbers places cached room out given released marked = record {
+  viewed keys ids outcomes numbers key_slots cached capacity out given released marked = record {
     ids = ids;
     outcomes = outcomes;
     numbers = numbers;
-    room = room;
-    held = keys_for keys (numbers_held places);
+    capacity = capacity;
+    held = keys_for keys (numbers_held key_slots);
     cached = keys_for keys (numbers_of cached);
-    pictures = record { held = pictures_held places; cached = values_of cached; released = released };
+    pictures = record { held = pictures_held key_slots; cached = values_of cached; released = released };
     jobs_out = jobs_for keys out;
     jobs_given = given;
     marked = marked;

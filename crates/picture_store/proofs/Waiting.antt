@@ -2,11 +2,11 @@
 use Rattle.std.proofs.Common.{◌≡◌, refl, sym, subst, ℕ, zero, suc, ◌<◌, List, [], ◌∷◌, map, take, Option, None, Some, Contains, slice_get, inl, inr, arith}
 use Rattle.std.specs.Prelude.{option_and_then}
 use Rattle.std.proofs.lemmas.Option.{none-some, slice_get_within, get_or_from_slice_get}
-use Rattle.h264_controls.specs.declared.work.Work.{Work}
+use Rattle.h264_controls.specs.declared.request.RequestBody.{RequestBody}
 use Rattle.unit_outcomes.specs.declared.outcome.Outcome.TheVariants.{Plan as Planned}
 use Rattle.unit_outcomes.specs.declared.outcome.Plan.{Plan}
 use Rattle.decode_jobs.specs.KeyMaps.{entered}
-use Rattle.decode_jobs.specs.Keys.{Key, named_by_all, tree_with, works_of}
+use Rattle.decode_jobs.specs.Keys.{Key, named_by_all, tree_with, bodies_of}
 use Rattle.picture_keys.specs.Known.{Known, key_at, known_after}
 use Rattle.held_pictures.proofs.Members.{here, there}
 use Rattle.held_pictures.specs.Needed.IsNeeded.{itself, named}
@@ -27,14 +27,14 @@ module _ {P : Type 0} (store : StoreValue P) (target : ℕ) (G : Type 0)
     → IsReady store.held key → G) where
   module _ (at own : ℕ) (plan : Plan) (is : slice_get (units_of store) at ≡ Some (own, Planned plan))
       (needed : IsNeededBy store target at) (earlier : (other : ℕ) → other < at → IsNeededBy store target other → G)
-      (work : List Work) where
+      (body : List RequestBody) where
     -- the keys that are known before the unit
     abbrev known : Known
     known = known_after [] (take at (units_of store))
 
     -- the key of units named at entries
     abbrev key_with : List (Option ℕ) → Key
-    key_with units = tree_with work (map (λ unit. option_and_then (key_at known) unit) units)
+    key_with units = tree_with body (map (λ unit. option_and_then (key_at known) unit) units)
 
     -- a unit that is named and isn't held is needed
     waits : (id : ℕ) → Contains (named_by_all plan.requests) (Some id) → (key : Key)
@@ -84,7 +84,7 @@ module _ {P : Type 0} (store : StoreValue P) (target : ℕ) (G : Type 0)
       let pending : IsPending store at = needed_waits (units_of store) (IsPending store) target at needed in
       let valid = valid_there (units_of store) at pending.0 pending.1 in
       entries_ready at valid.0 valid.1 valid.2 needed
-      (λ other before other_needed. reach bound other (omega (arith, before, below)) other_needed) (works_of valid.1.requests)
+      (λ other before other_needed. reach bound other (omega (arith, before, below)) other_needed) (bodies_of valid.1.requests)
       (named_by_all valid.1.requests) (λ unit is. is)
       (λ is_ready. ready at pending.0 needed pending.1 pending.2 (subst (IsReady store.held) (sym valid.3) is_ready))
 

@@ -12,7 +12,7 @@ module _ {P : Type 0} where
   pub record Refits (old : StoreValue P) (ids : List ℕ) (outcomes : List Outcome) (new : StoreValue P) : Type 0 where
     pub ids_are : new.ids ≡ ids
     pub outcomes_are : new.outcomes ≡ outcomes
-    pub room_stays : new.room ≡ old.room
+    pub capacity_stays : new.capacity ≡ old.capacity
     pub out_stays : new.jobs_out ≡ old.jobs_out
     pub given_stays : new.jobs_given ≡ old.jobs_given
     pub marked_stays : new.marked ≡ old.marked
@@ -24,7 +24,7 @@ module _ {P : Type 0} where
     pub gone : List Key
     pub go : IsLeft (IsInUse new) old.held gone
     pub lost : ℕ
-    pub cached_are : ArePut old.room gone stay new.cached lost
+    pub cached_are : ArePut old.capacity gone stay new.cached lost
 
   -- a store takes the units, and so many pictures are lost
   abbrev pub RefitsLosing : StoreValue P → List ℕ → List Outcome → ℕ → StoreValue P → Type 0

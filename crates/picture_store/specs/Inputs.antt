@@ -7,7 +7,7 @@ use Rattle.decode_jobs.specs.Inputs.{InputValue, is_whole}
 use Rattle.picture_keys.specs.Known.{Known, key_of_outcome}
 use Rattle.picture_keys.specs.Decodable.{OutcomeCanDecode}
 use Rattle.picture_keys.specs.Referred.{ShowsKnown}
-use Rattle.picture_store.specs.Kept.{Trees}
+use Rattle.picture_store.specs.Stored.{Trees}
 use Rattle.picture_store.specs.Referenced.{AreInOrder}
 use Rattle.decode_jobs.specs.Keys.{Key}
 

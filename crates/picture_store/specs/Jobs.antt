@@ -9,8 +9,8 @@ use Rattle.decode_jobs.specs.Jobs.{JobValue}
 use Rattle.decode_jobs.specs.Keys.{Key}
 use Rattle.picture_keys.specs.Known.{key_of, keys_of, known_after}
 use Rattle.picture_keys.specs.Referred.{ShowsKnown}
-use Rattle.picture_store.specs.declared.refusals.TakeRefused.{TakeRefused}
-use Rattle.picture_store.specs.declared.refusals.TakeRefused.TheVariants.{JobsSpent, Memory}
+use Rattle.picture_store.specs.declared.answers.TakeRefused.{TakeRefused}
+use Rattle.picture_store.specs.declared.answers.TakeRefused.TheVariants.{JobsSpent, Memory}
 use Rattle.picture_store.specs.declared.answers.JobAt.{JobAt}
 use Rattle.picture_store.specs.declared.answers.Landing.{Landing}
 use Rattle.picture_store.specs.declared.answers.Landing.TheVariants as landings
@@ -77,10 +77,10 @@ module _ {P : Type 0} (IsOf : Key → P → Type 0) where
   AnswersTake old (Err Memory) new = IsAnyDue old × (old.jobs_given < most_jobs) × (new ≡ old)
 
   -- what `take` tells: what it answers, and of a job at which place its unit stands
-  abbrev pub TellsTake : StoreValue P → Result (Option (JobAt P)) TakeRefused → StoreValue P → Type 0
-  TellsTake old (Ok (Some told)) new = (takes : Takes old told.job new) × (told.at ≡ takes.at)
-  TellsTake old (Ok None) new = AnswersTake old (Ok None) new
-  TellsTake old (Err refused) new = AnswersTake old (Err refused) new
+  abbrev pub AnswersTakeWithUnit : StoreValue P → Result (Option (JobAt P)) TakeRefused → StoreValue P → Type 0
+  AnswersTakeWithUnit old (Ok (Some told)) new = (takes : Takes old told.job new) × (told.at ≡ takes.at)
+  AnswersTakeWithUnit old (Ok None) new = AnswersTake old (Ok None) new
+  AnswersTakeWithUnit old (Err refused) new = AnswersTake old (Err refused) new
 
 module _ {P : Type 0} where
   -- the job that is out has this number and was given this to decode

@@ -2,9 +2,9 @@ pub mod Pictures
 pub mod Stores
 pub mod Changes
 pub mod Jobs
-pub mod Places
+pub mod KeySlots
 pub mod Recounts
-pub mod Kept
+pub mod Stored
 pub mod Marks
 pub mod Numbers
 pub mod Naming
@@ -14,7 +14,7 @@ pub mod Due
 pub mod Schedules
 pub mod Looked
 pub mod Settled
-pub mod Stretches
+pub mod Splices
 pub mod Needs
 pub mod Inputs
 pub mod Showing

@@ -1,14 +1,14 @@
 -- How many units, from the first on, aren't due, and where the units of jobs stand.
 use Rattle.std.specs.Prelude.{◌≡◌, ℕ, ◌<◌, ◌≤◌, min, List, length, take, All, Option, Some, slice_get}
 use Rattle.picture_store.specs.declared.job_out.JobOut.{JobOut}
-use Rattle.picture_store.specs.Places.{PlacesValue}
-use Rattle.picture_store.specs.Kept.{Trees}
+use Rattle.picture_store.specs.KeySlots.{KeySlotsValue}
+use Rattle.picture_store.specs.Stored.{Trees}
 use Rattle.picture_store.specs.Due.{IsNotDue}
 
 module _ {P : Type 0} where
   -- of so many units, from the first on, none is due
-  abbrev pub AreNotDue : Trees → PlacesValue P → List (JobOut P) → List (Option ℕ) → ℕ → Type 0
-  AreNotDue keys places out numbers count = (count ≤ length numbers) × All (IsNotDue keys places out) (take count numbers)
+  abbrev pub AreNotDue : Trees → KeySlotsValue P → List (JobOut P) → List (Option ℕ) → ℕ → Type 0
+  AreNotDue keys key_slots out numbers count = (count ≤ length numbers) × All (IsNotDue keys key_slots out) (take count numbers)
 
   -- no unit before the job's place has its key
   abbrev pub IsBehind : List (Option ℕ) → JobOut P → Type 0

@@ -3,7 +3,7 @@ use Rattle.std.specs.Prelude.{◌≡◌, ℕ, List, [], ◌↔◌, Bool, false, 
 use Rattle.std.specs.Option.{option_map, unwrap_or}
 use Rattle.decode_jobs.specs.KeyMaps.{tree_at}
 use Rattle.decode_jobs.specs.Keys.{Key}
-use Rattle.picture_store.specs.Kept.{Trees, keys_for}
+use Rattle.picture_store.specs.Stored.{Trees, keys_for}
 
 -- whether the number has a flag
 abbrev pub is_flagged : List Bool → ℕ → Bool

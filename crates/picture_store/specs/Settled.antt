@@ -4,11 +4,11 @@ use Rattle.std.specs.List.{zip}
 use Rattle.std.specs.Map.{keys_of as numbers_of}
 use Rattle.unit_outcomes.specs.declared.outcome.Outcome.{Outcome}
 use Rattle.held_pictures.specs.Counting.{times}
-use Rattle.held_pictures.specs.Places.{uses_at}
+use Rattle.held_pictures.specs.KeySlots.{uses_at}
 use Rattle.picture_store.specs.declared.job_out.JobOut.{JobOut}
 use Rattle.picture_store.specs.declared.schedule.Schedule.{Schedule}
-use Rattle.picture_store.specs.Places.{PlacesValue}
-use Rattle.picture_store.specs.Kept.{Trees, numbers_out, IsKept}
+use Rattle.picture_store.specs.KeySlots.{KeySlotsValue}
+use Rattle.picture_store.specs.Stored.{Trees, numbers_out, IsSound}
 use Rattle.picture_store.specs.Marks.{AreMarked}
 use Rattle.picture_store.specs.Due.{IsHeld}
 use Rattle.picture_store.specs.Looked.{AreNotDue, IsBehind}
@@ -19,12 +19,12 @@ use Rattle.decode_jobs.specs.Keys.{Key}
 module _ {P : Type 0} where
   -- the unit of this number needs no job: it has no key, or the picture of its key is held or that of
   -- a job that is out
-  abbrev pub NeedsNone : PlacesValue P → List (JobOut P) → Option ℕ → Type 0
-  NeedsNone places out number = IfSome number (λ n. IsHeld places n ⊎ Contains (numbers_out out) n)
+  abbrev pub NeedsNone : KeySlotsValue P → List (JobOut P) → Option ℕ → Type 0
+  NeedsNone key_slots out number = IfSome number (λ n. IsHeld key_slots n ⊎ Contains (numbers_out out) n)
 
   -- so many units, from the first on, need none
-  abbrev pub AreSettled : PlacesValue P → List (JobOut P) → List (Option ℕ) → ℕ → Type 0
-  AreSettled places out numbers count = (count ≤ length numbers) × All (NeedsNone places out) (take count numbers)
+  abbrev pub AreSettled : KeySlotsValue P → List (JobOut P) → List (Option ℕ) → ℕ → Type 0
+  AreSettled key_slots out numbers count = (count ≤ length numbers) × All (NeedsNone key_slots out) (take count numbers)
 
 module _ {P : Type 0} (IsDecoded : InputValue P → P → Type 0) (IsOf : Key → P → Type 0) where
   -- what is stored: what is kept of the stream, where each place counts the units that use its key
@@ -32,13 +32,13 @@ module _ {P : Type 0} (IsDecoded : InputValue P → P → Type 0) (IsOf : Key �
   -- no unit before a job's place has its key; the schedule of the units that one needs; and the
   -- numbers of the marked keys
   pub record IsStored (keys : Trees) (ids : List ℕ) (outcomes : List Outcome) (numbers : List (Option ℕ))
-      (places : PlacesValue P) (cached : List (ℕ × P)) (out : List (JobOut P)) (count passed : ℕ) (schedule : Option Schedule)
+      (key_slots : KeySlotsValue P) (cached : List (ℕ × P)) (out : List (JobOut P)) (count passed : ℕ) (schedule : Option Schedule)
       (mark : Option (List ℕ)) : Type 0 where
-    pub kept : IsKept IsDecoded IsOf keys ids outcomes numbers places cached out
-    pub counted : (number : ℕ) → uses_at places number ≡ times number numbers
-    pub apart : (number : ℕ) → 0 < uses_at places number → Contains (numbers_of cached) number → ⊥
-    pub settled : AreSettled places out numbers count
-    pub looked : AreNotDue keys places out numbers passed
+    pub kept : IsSound IsDecoded IsOf keys ids outcomes numbers key_slots cached out
+    pub counted : (number : ℕ) → uses_at key_slots number ≡ times number numbers
+    pub apart : (number : ℕ) → 0 < uses_at key_slots number → Contains (numbers_of cached) number → ⊥
+    pub settled : AreSettled key_slots out numbers count
+    pub searched : AreNotDue keys key_slots out numbers passed
     pub behind : All (IsBehind numbers) out
-    pub scheduled : IsScheduled keys (zip ids outcomes) numbers places out schedule
+    pub scheduled : IsScheduled keys (zip ids outcomes) numbers key_slots out schedule
     pub marked : AreMarked keys mark

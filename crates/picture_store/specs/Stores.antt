@@ -23,7 +23,7 @@ pub record StoreValue (P : Type 0) : Type 0 where
   pub ids : List ℕ
   pub outcomes : List Outcome
   pub numbers : List (Option ℕ)
-  pub room : ℕ
+  pub capacity : ℕ
   pub held : List Key
   pub cached : List Key
   pub pictures : Pictures P
@@ -34,11 +34,11 @@ pub record StoreValue (P : Type 0) : Type 0 where
 module _ {P : Type 0} where
   -- before the first unit
   abbrev pub empty : ℕ → StoreValue P
-  empty room = record {
+  empty capacity = record {
     ids = [];
     outcomes = [];
     numbers = [];
-    room = room;
+    capacity = capacity;
     held = [];
     cached = [];
     pictures = no_pictures;
@@ -85,6 +85,6 @@ module _ {P : Type 0} where
 
 -- the pictures of the keys at a key's own entries are held
 abbrev pub IsReady : List Key → Key → Type 0
-IsReady held (Bare works) = Unit {0}
+IsReady held (Bare bodies) = Unit {0}
 IsReady held (Gap rest) = IsReady held rest
 IsReady held (With first rest) = Contains held first × IsReady held rest

@@ -1,8 +1,8 @@
 -- Jobs that are taken for a unit.
 use Rattle.std.specs.Prelude.{◌≡◌, ℕ, ◌<◌, Option, None, Some, Result, Ok, Err}
 use Rattle.decode_jobs.specs.Keys.{Key}
-use Rattle.picture_store.specs.declared.refusals.TakeRefused.{TakeRefused}
-use Rattle.picture_store.specs.declared.refusals.TakeRefused.TheVariants.{JobsSpent, Memory}
+use Rattle.picture_store.specs.declared.answers.TakeRefused.{TakeRefused}
+use Rattle.picture_store.specs.declared.answers.TakeRefused.TheVariants.{JobsSpent, Memory}
 use Rattle.picture_store.specs.declared.answers.JobAt.{JobAt}
 use Rattle.picture_store.specs.Stores.{StoreValue}
 use Rattle.picture_store.specs.Jobs.{Gives, most_jobs}
@@ -17,11 +17,11 @@ module _ {P : Type 0} (IsOf : Key → P → Type 0) where
 
   -- what `take_for` tells: a job and at which place its unit stands, that no needed unit is due, or
   -- why no job is given; what is needed is gathered in memory first
-  abbrev pub TellsTakeFor : StoreValue P → ℕ → Result (Option (JobAt P)) TakeRefused → StoreValue P → Type 0
-  TellsTakeFor old target (Ok (Some told)) new = TakesFor old target told new
-  TellsTakeFor old target (Ok None) new = (IsAnyDueBy old target → ⊥) × (new ≡ old)
-  TellsTakeFor old target (Err JobsSpent) new = IsAnyDueBy old target × (old.jobs_given ≡ most_jobs) × (new ≡ old)
-  TellsTakeFor old target (Err Memory) new = new ≡ old
+  abbrev pub AnswersTakeWithUnitFor : StoreValue P → ℕ → Result (Option (JobAt P)) TakeRefused → StoreValue P → Type 0
+  AnswersTakeWithUnitFor old target (Ok (Some told)) new = TakesFor old target told new
+  AnswersTakeWithUnitFor old target (Ok None) new = (IsAnyDueBy old target → ⊥) × (new ≡ old)
+  AnswersTakeWithUnitFor old target (Err JobsSpent) new = IsAnyDueBy old target × (old.jobs_given ≡ most_jobs) × (new ≡ old)
+  AnswersTakeWithUnitFor old target (Err Memory) new = new ≡ old
 
   -- what comes of giving the job of the unit at a place, which is due
   abbrev pub TellsGiven : StoreValue P → ℕ → Result (JobAt P) TakeRefused → StoreValue P → Type 0

@@ -1,11 +1,17 @@
 //! What a store answers about jobs.
 
+ghost use Rattle.std.specs.Prelude.{◌≡◌};
+ghost use Rattle.picture_store.specs.declared.answers.TakeRefused.TheVariants.{Memory};
+ghost use Rattle.picture_store.specs.Numbers.{number_of};
+
 use decode_jobs::{Decoded, Job};
 use picture_keys::changed_units::Changed;
+use std::alloc::{AllocError, AllocFailed};
+use thiserror::Error;
 
-/// What taking a stretch of units came to: how many pictures are lost, and which units changed.
+/// What a splice came to: how many pictures are lost, and which units changed.
 #[derive(Clone, Copy, Debug, PartialEq, Eq)]
-pub struct StretchTaken {
+pub struct SpliceTaken {
     pub lost: usize,
     pub changed: Changed,
 }
@@ -35,4 +41,35 @@ pub enum Returning {
     Returned,
     /// It isn't out.
     Foreign,
+}
+
+/// Why no job is given though one is due.
+#[derive(Clone, Copy, Debug, PartialEq, Eq, Hash, Error)]
+pub enum TakeRefused {
+    /// 18,446,744,073,709,551,615 numbers of jobs were given.
+    #[error("all numbers of jobs were given")]
+    JobsSpent,
+    /// A growth was refused.
+    #[error("out of memory")]
+    Memory,
+}
+
+impl TakeRefused {
+    /// The refusal's number, from 1 in the order above.
+    pub fn number(self) -> u8
+        ensures { result ≡ number_of self }
+    {
+        match self {
+            TakeRefused::JobsSpent => 1,
+            TakeRefused::Memory => 2,
+        }
+    }
+}
+
+impl From<AllocError> for TakeRefused {
+    ghost from_gives = { λ error refused. refused ≡ Memory };
+
+    fn from(_: AllocError) -> TakeRefused {
+        TakeRefused::Memory
+    }
 }

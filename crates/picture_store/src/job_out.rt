@@ -2,7 +2,7 @@
 
 ghost use Rattle.std.specs.Prelude.{◌≡◌, ◌<◌, ◌==◌, ◌↔◌, length, map, position, All, Contains, IfSome, IsTrue, MatchOption, slice_index_or};
 ghost use Rattle.picture_store.specs.declared.job_out.JobOut.{JobOut as Out};
-ghost use Rattle.picture_store.specs.Kept.{numbers_out};
+ghost use Rattle.picture_store.specs.Stored.{numbers_out};
 ghost use Rattle.picture_store.specs.Looked.{lowered};
 
 use decode_jobs::dep_keys::KeyId;

@@ -1,8 +1,8 @@
 //! The pictures of a stream's units: which are held, which wait, which are cached after their keys
 //! went out of use, and the jobs that are out.
 //!
-//! `PictureStore` knows a stream by its units' ids and the outcome of each. `refit` takes a stretch
-//! of it that changed, and finds the keys of its units and of those after it whose keys may have
+//! `PictureStore` knows a stream by its units' ids and the outcome of each. `refit` makes a
+//! splice of units, and finds the keys of these and of those after it whose keys may have
 //! changed with it: a picture whose key stays in use stays held. `take` gives the job of the
 //! earliest picture that can be decoded, `take_for` that of the earliest which a unit needs, `land`
 //! takes its result, late or twice, `give_back` the job undone, and `picture` shows what is held.
@@ -18,22 +18,18 @@ mod due;
 mod filling;
 mod inputs;
 mod job_out;
-mod laws;
 mod mark;
 mod naming;
 mod recounting;
 mod refitting;
-mod refusals;
 mod rescheduling;
 mod schedule;
 mod store;
-mod stretch;
 mod unreferred;
 
-pub use answers::{JobAt, Landing, Returning, StretchTaken};
-pub use held_pictures::picture_cache::MOST_ROOM;
-pub use laws::something_is_due;
+pub use answers::{JobAt, Landing, Returning, SpliceTaken, TakeRefused};
+pub use changing::UnitSplice;
+pub use due::something_is_due;
+pub use held_pictures::picture_cache::MOST_CAPACITY;
 pub use refitting::numbers_of;
-pub use refusals::TakeRefused;
 pub use store::PictureStore;
-pub use stretch::Stretch;

@@ -102,7 +102,7 @@ fn flag(flags: &mut Vec<bool>, number: usize) -> Result<(), AllocError>
 fn make_flags(flags: &mut Vec<bool>, number: usize) -> Result<(), AllocError>
     ensures same { (other : ℕ) → is_flagged flags.new.items other
         ≡ is_flagged flags.old.items other }
-    ensures room { OnOk result (number < length flags.new.items) }
+    ensures capacity { OnOk result (number < length flags.new.items) }
 {
     while flags.len() <= number {
         flags.push(false)?;

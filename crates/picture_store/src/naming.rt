@@ -10,7 +10,7 @@ use decode_jobs::dep_keys::KeyId;
 use decode_jobs::{Decoded, Reference};
 use h264_controls::Request;
 use h264_types::pictures::AuId;
-use held_pictures::key_slots::Places;
+use held_pictures::key_slots::KeySlots;
 use std::alloc::{AllocError, Global};
 
 /// The frames in the decoded picture buffers that requests carry, each once, in their order.
@@ -49,21 +49,21 @@ fn add_frame(frames: &mut Vec<AuId>, frame: AuId) -> Result<(), AllocError>
 /// that stand at the same entries as the units that are named.
 pub(crate) fn references_of<P: Decoded>(
     alloc: Global,
-    places: &Places<P>,
+    key_slots: &KeySlots<P>,
     frames: &[AuId],
     units: &[Option<AuId>],
     entries: &[Option<KeyId>],
 ) -> Result<Vec<Reference<P>>, AllocError>
-    requires covered { AreCovered places.now units.now entries.now }
+    requires covered { AreCovered key_slots.now units.now entries.now }
     requires least { length units.now ≤ length entries.now }
     ensures shown { IfOk result (λ references.
-        All (IsShown places.now units.now entries.now) references.items) }
+        All (IsShown key_slots.now units.now entries.now) references.items) }
     ensures times { IfOk result (λ references.
         times_of references.items ≡ map timestamp (frames_named frames.now units.now)) }
 {
     let mut references = Vec::new(alloc);
     for frame in frames {
-        add_named(&mut references, places, *frame, units, entries)?;
+        add_named(&mut references, key_slots, *frame, units, entries)?;
     }
     Ok(references)
 }
@@ -71,15 +71,15 @@ pub(crate) fn references_of<P: Decoded>(
 /// Adds the picture of a frame where it is named.
 fn add_named<P: Decoded>(
     references: &mut Vec<Reference<P>>,
-    places: &Places<P>,
+    key_slots: &KeySlots<P>,
     frame: AuId,
     units: &[Option<AuId>],
     entries: &[Option<KeyId>],
 ) -> Result<(), AllocError>
-    requires covered { AreCovered places.now units.now entries.now }
+    requires covered { AreCovered key_slots.now units.now entries.now }
     requires least { length units.now ≤ length entries.now }
-    ensures shown { OnOk result (All (IsShown places.now units.now entries.now) references.old.items
-        → All (IsShown places.now units.now entries.now) references.new.items) }
+    ensures shown { OnOk result (All (IsShown key_slots.now units.now entries.now) references.old.items
+        → All (IsShown key_slots.now units.now entries.now) references.new.items) }
     ensures times { OnOk result (times_of references.new.items ≡ times_of references.old.items
         ++ map timestamp (frames_named (frame ∷ []) units.now)) }
 {
@@ -87,7 +87,7 @@ fn add_named<P: Decoded>(
         return Ok(());
     };
     let entry = entries[at];
-    if let Some(picture) = picture_in(places, entry) {
+    if let Some(picture) = picture_in(key_slots, entry) {
         let timestamp = frame.timestamp();
         references.push(Reference { timestamp, picture })?;
     }
@@ -108,8 +108,8 @@ fn entry_of(units: &[Option<AuId>], frame: AuId) -> Option<usize>
 }
 
 /// The picture of an entry, where it is held.
-fn picture_in<P: Decoded>(places: &Places<P>, entry: Option<KeyId>) -> Option<P>
-    ensures { result ≡ picture_in places.now entry }
+fn picture_in<P: Decoded>(key_slots: &KeySlots<P>, entry: Option<KeyId>) -> Option<P>
+    ensures { result ≡ picture_in key_slots.now entry }
 {
-    places.get(entry?)?
+    key_slots.get(entry?)?
 }

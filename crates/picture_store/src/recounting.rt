@@ -1,17 +1,17 @@
-//! The keys in use, counted anew where a stretch of a stream changed.
+//! The keys in use, counted anew where a range of a stream changed.
 
 ghost use Rattle.std.specs.Prelude.{◌≡◌, ◌+◌, ◌-◌, ◌^◌, ◌<◌, ◌≤◌, ◌++◌, [], true, false, ℕ, List, Option, Contains, IsPermutation, Some, IfOk, OnOk, drop, length, take, vec_len};
 ghost use Rattle.std.specs.Vec.{vec_capacity};
 ghost use Rattle.std.specs.List.Sorted.{IsNonDecreasing};
 ghost use Rattle.held_pictures.specs.Accounts.{AreApart, pictures_of};
 ghost use Rattle.held_pictures.specs.Counting.{times, times_in};
-ghost use Rattle.held_pictures.specs.Places.{AreSame, uses_at};
+ghost use Rattle.held_pictures.specs.KeySlots.{AreSame, uses_at};
 ghost use Rattle.picture_store.specs.Recounts.{IsCountable, IsRecounted};
 
 use crate::refitting::add_numbers;
 use decode_jobs::Decoded;
 use decode_jobs::dep_keys::KeyId;
-use held_pictures::key_slots::{Places, let_go_all, make_places, take_up_all};
+use held_pictures::key_slots::{KeySlots, let_go_all, reserve_slots, take_up_all};
 use held_pictures::picture_cache::PictureCache;
 use std::alloc::{AllocError, Global};
 
@@ -32,7 +32,7 @@ fn leaving(alloc: Global, numbers: &[Option<KeyId>]) -> Result<Vec<KeyId>, Alloc
 pub(crate) fn make_ready<P: Decoded>(
     alloc: Global,
     numbers: &mut Vec<Option<KeyId>>,
-    places: &mut Places<P>,
+    key_slots: &mut KeySlots<P>,
     released: &mut Vec<P>,
     from: usize,
     to: usize,
@@ -41,12 +41,12 @@ pub(crate) fn make_ready<P: Decoded>(
     requires ordered { from ≤ to }
     requires inside { to ≤ length numbers.old.items }
     ensures numbers { numbers.new.items ≡ numbers.old.items }
-    ensures same { AreSame places.old places.new }
+    ensures same { AreSame key_slots.old key_slots.new }
     ensures released { released.new.items ≡ released.old.items }
-    ensures found_room { OnOk result
+    ensures found_capacity { OnOk result
         (vec_len numbers.new + length later.now ≤ vec_capacity numbers.new) }
-    ensures room { OnOk result ((number : ℕ) → Contains later.now (Some number)
-        → number < length places.new) }
+    ensures capacity { OnOk result ((number : ℕ) → Contains later.now (Some number)
+        → number < length key_slots.new) }
     ensures spare { IfOk result (λ keys. vec_len released.new + length keys.items
         ≤ vec_capacity released.new) }
     ensures counted { IfOk result (λ keys. (number : ℕ) → times_in number keys.items
@@ -56,7 +56,7 @@ pub(crate) fn make_ready<P: Decoded>(
     let leaving = leaving(alloc, &numbers[from..to])?;
     numbers.reserve(later.len())?;
     released.reserve(leaving.len())?;
-    make_places(places, later)?;
+    reserve_slots(key_slots, later)?;
     Ok(leaving)
 }
 
@@ -64,30 +64,30 @@ pub(crate) fn make_ready<P: Decoded>(
 /// go. What goes out of the cache is released, and so is what isn't put into it where memory runs
 /// out, for the cache alone: says how many pictures aren't put.
 pub(crate) fn recount<P: Decoded>(
-    places: &mut Places<P>,
+    key_slots: &mut KeySlots<P>,
     cache: &mut PictureCache<KeyId, P>,
     later: &[Option<KeyId>],
     leaving: &[KeyId],
     released: &mut Vec<P>,
 ) -> usize
-    requires room { (number : ℕ) → Contains later.now (Some number)
-        → number < length places.old }
-    requires fits { (number : ℕ) → uses_at places.old number + length later.now < 2 ^ 64 }
-    requires enough { (number : ℕ) → times_in number leaving.now ≤ uses_at places.old number }
+    requires capacity { (number : ℕ) → Contains later.now (Some number)
+        → number < length key_slots.old }
+    requires fits { (number : ℕ) → uses_at key_slots.old number + length later.now < 2 ^ 64 }
+    requires enough { (number : ℕ) → times_in number leaving.now ≤ uses_at key_slots.old number }
     requires rising { IsNonDecreasing leaving.now }
     requires spare { vec_len released.old + length leaving.now ≤ vec_capacity released.old }
-    requires apart { AreApart places.old cache.old.pairs }
+    requires apart { AreApart key_slots.old cache.old.pairs }
     ensures recounted { (front goes back : List (Option ℕ))
-        → IsCountable places.old cache.old.pairs front goes back leaving.now
-        → IsRecounted places.old cache.old.pairs cache.old.capacity (front ++ later.now ++ back)
-        places.new cache.new.pairs result }
-    ensures room { cache.new.capacity ≡ cache.old.capacity }
+        → IsCountable key_slots.old cache.old.pairs front goes back leaving.now
+        → IsRecounted key_slots.old cache.old.pairs cache.old.capacity (front ++ later.now ++ back)
+        key_slots.new cache.new.pairs result }
+    ensures capacity { cache.new.capacity ≡ cache.old.capacity }
     ensures accounts { IsPermutation
-        (pictures_of places.old cache.old.pairs released.old.items)
-        (pictures_of places.new cache.new.pairs released.new.items) }
+        (pictures_of key_slots.old cache.old.pairs released.old.items)
+        (pictures_of key_slots.new cache.new.pairs released.new.items) }
 {
-    take_up_all(places, cache, later);
-    let_go_all(places, cache, leaving, released)
+    take_up_all(key_slots, cache, later);
+    let_go_all(key_slots, cache, leaving, released)
 }
 
 /// Forgets the pictures that are released, where the host has no picture back.

@@ -9,29 +9,29 @@ ghost use Rattle.picture_keys.specs.Known.{Known, keys_after, keys_of, known_aft
 ghost use Rattle.picture_keys.specs.Numbered.{AllStandFor, number_at, numbers_over};
 ghost use Rattle.picture_keys.specs.Following.{AreNumberedSome, Follow};
 ghost use Rattle.held_pictures.specs.Counting.{times, times_in};
-ghost use Rattle.picture_store.specs.Kept.{AreSwept, numbers_out, IsStored, KeepsMarked, KeepsStored};
+ghost use Rattle.picture_store.specs.Stored.{AreSwept, numbers_out, IsStored, KeepsMarked, KeepsStored};
 ghost use Rattle.picture_store.specs.Marks.{numbers_marked};
 ghost use Rattle.picture_store.specs.Needs.{AgreeAt, TellNeeds, between};
-ghost use Rattle.picture_store.specs.Stretches.{IsStretch, ids_with, outcomes_with};
+ghost use Rattle.picture_store.specs.Splices.{IsSplice, ids_with, outcomes_with};
 
+use crate::changing::UnitSplice;
 use crate::job_out::JobOut;
 use crate::mark::{Mark, add_marked};
-use crate::stretch::Stretch;
 use checkpoints::Checkpoints;
 use decode_jobs::Decoded;
 use decode_jobs::dep_keys::{Fingerprint, KeyId, Keys};
 use h264_types::base::{Shared, replace_range};
 use h264_types::pictures::{AuId, Frame};
 use held_pictures::picture_cache::PictureCache;
-use picture_keys::{HashedOutcome, KeyNumbers, UnitKeys, Works};
+use picture_keys::{HashedOutcome, KeyNumbers, RequestBodies, UnitKeys};
 use request_core::State;
 use std::alloc::{AllocError, Global};
 
 /// The numbers of the keys of units, nothing for one that isn't valid. Keys that have a number keep
 /// it.
-pub fn numbers_of<F: Fingerprint<Works>>(
+pub fn numbers_of<F: Fingerprint<RequestBodies>>(
     alloc: Global,
-    keys: &mut Keys<Works, F>,
+    keys: &mut Keys<RequestBodies, F>,
     ids: &[AuId],
     outcomes: &[Shared<HashedOutcome>],
 ) -> Result<Vec<Option<KeyId>>, AllocError>
@@ -47,9 +47,9 @@ pub fn numbers_of<F: Fingerprint<Works>>(
 }
 
 /// Goes over units more.
-fn go_over<F: Fingerprint<Works>>(
+fn go_over<F: Fingerprint<RequestBodies>>(
     alloc: Global,
-    keys: &mut Keys<Works, F>,
+    keys: &mut Keys<RequestBodies, F>,
     units: &mut UnitKeys<'_>,
     ids: &[AuId],
     outcomes: &[Shared<HashedOutcome>],
@@ -90,47 +90,47 @@ impl<'a> Columns<'a> {
     }
 }
 
-/// The numbers of the keys of a stretch's units and of as many after it as may have others than
+/// The numbers of the keys of a splice's units and of as many after it as may have others than
 /// before, and the place past these, from which on all keys stay.
-pub(crate) fn keys_from<F: Fingerprint<Works>>(
+pub(crate) fn keys_from<F: Fingerprint<RequestBodies>>(
     alloc: Global,
-    keys: &mut Keys<Works, F>,
+    keys: &mut Keys<RequestBodies, F>,
     ids: &[AuId],
     outcomes: &[Shared<HashedOutcome>],
     numbers: &[Option<KeyId>],
     states: &Checkpoints<State>,
-    stretch: &Stretch,
+    splice: &UnitSplice,
 ) -> Result<(usize, Vec<Option<KeyId>>), AllocError>
-    requires stretch { IsStretch stretch.now ids.now }
+    requires splice { IsSplice splice.now ids.now }
     requires same { length ids.now ≡ length outcomes.now }
     requires stand { AllStandFor keys.old numbers.now (keys_of (zip ids.now outcomes.now)) }
     requires told { TellNeeds states.now.states ids.now outcomes.now }
     ensures stay { Extends keys.old keys.new }
     ensures one { IsKeyMap keys.old → IsKeyMap keys.new }
-    ensures behind { IfOk result (λ made. (stretch.now.to ≤ made.0) × (made.0 ≤ length ids.now)) }
+    ensures behind { IfOk result (λ made. (splice.now.to ≤ made.0) × (made.0 ≤ length ids.now)) }
     ensures stand { IfOk result (λ made. AllStandFor keys.new
         (made.1.items ++ drop made.0 numbers.now)
         (keys_after (known_after []
-        (zip (take stretch.now.from ids.now) (take stretch.now.from outcomes.now)))
-        (zip stretch.now.ids.items stretch.now.outcomes.items
-        ++ zip (drop stretch.now.to ids.now) (drop stretch.now.to outcomes.now)))) }
+        (zip (take splice.now.from ids.now) (take splice.now.from outcomes.now)))
+        (zip splice.now.ids.items splice.now.outcomes.items
+        ++ zip (drop splice.now.to ids.now) (drop splice.now.to outcomes.now)))) }
 {
     let units = Columns {
         ids,
         outcomes,
         numbers,
     };
-    let mut after = UnitKeys::after(alloc, units.numbers_up_to(alloc, stretch.from));
-    go_over(alloc, keys, &mut after, &stretch.ids, &stretch.outcomes)?;
-    let past = go_on(alloc, keys, &mut after, &units, states, stretch.to)?;
+    let mut after = UnitKeys::after(alloc, units.numbers_up_to(alloc, splice.from));
+    go_over(alloc, keys, &mut after, &splice.ids, &splice.outcomes)?;
+    let past = go_on(alloc, keys, &mut after, &units, states, splice.to)?;
     Ok((past, after.into_found()))
 }
 
 /// Goes over the units from a place on up to where the keys of those after it stay, and gives that
 /// place.
-fn go_on<F: Fingerprint<Works>>(
+fn go_on<F: Fingerprint<RequestBodies>>(
     alloc: Global,
-    keys: &mut Keys<Works, F>,
+    keys: &mut Keys<RequestBodies, F>,
     after: &mut UnitKeys<'_>,
     units: &Columns<'_>,
     states: &Checkpoints<State>,
@@ -203,48 +203,48 @@ fn agree_on(
 }
 
 /// Makes room for so many units more.
-pub(crate) fn make_room(
+pub(crate) fn reserve(
     ids: &mut Vec<AuId>,
     outcomes: &mut Vec<Shared<HashedOutcome>>,
     count: usize,
 ) -> Result<(), AllocError>
     ensures ids { ids.new.items ≡ ids.old.items }
     ensures outcomes { outcomes.new.items ≡ outcomes.old.items }
-    ensures ids_room { OnOk result (vec_len ids.new + count ≤ vec_capacity ids.new) }
-    ensures outcomes_room { OnOk result (vec_len outcomes.new + count ≤ vec_capacity outcomes.new) }
+    ensures ids_capacity { OnOk result (vec_len ids.new + count ≤ vec_capacity ids.new) }
+    ensures outcomes_capacity { OnOk result (vec_len outcomes.new + count ≤ vec_capacity outcomes.new) }
 {
     ids.reserve(count)?;
     outcomes.reserve(count)
 }
 
-/// Puts the units of a stretch, for which there is room, in the place of those that go.
-pub(crate) fn put_stretch(
+/// Puts the units of a splice, for which there is room, in the place of those that go.
+pub(crate) fn put_splice(
     ids: &mut Vec<AuId>,
     outcomes: &mut Vec<Shared<HashedOutcome>>,
-    stretch: Stretch,
+    splice: UnitSplice,
 )
-    requires stretch { IsStretch stretch ids.old.items }
+    requires splice { IsSplice splice ids.old.items }
     requires same { length ids.old.items ≡ length outcomes.old.items }
-    requires ids_room { vec_len ids.old + length stretch.ids.items ≤ vec_capacity ids.old }
-    requires outcomes_room { vec_len outcomes.old + length stretch.outcomes.items
+    requires ids_capacity { vec_len ids.old + length splice.ids.items ≤ vec_capacity ids.old }
+    requires outcomes_capacity { vec_len outcomes.old + length splice.outcomes.items
         ≤ vec_capacity outcomes.old }
-    ensures ids { ids.new.items ≡ ids_with stretch ids.old.items }
-    ensures outcomes { outcomes.new.items ≡ outcomes_with stretch outcomes.old.items }
+    ensures ids { ids.new.items ≡ ids_with splice ids.old.items }
+    ensures outcomes { outcomes.new.items ≡ outcomes_with splice outcomes.old.items }
 {
-    let Stretch {
+    let UnitSplice {
         from,
         to,
         ids: other_ids,
         outcomes: other_outcomes,
-    } = stretch;
+    } = splice;
     replace_range(ids, from, to, other_ids);
     replace_range(outcomes, from, to, other_outcomes);
 }
 
 /// Forgets the keys that are neither stored, nor marked, nor below one that is.
-pub(crate) fn sweep<F: Fingerprint<Works>, P: Decoded>(
+pub(crate) fn sweep<F: Fingerprint<RequestBodies>, P: Decoded>(
     alloc: Global,
-    keys: &mut Keys<Works, F>,
+    keys: &mut Keys<RequestBodies, F>,
     numbers: &[Option<KeyId>],
     mark: &Option<Mark>,
     cache: &PictureCache<KeyId, P>,
@@ -262,10 +262,10 @@ pub(crate) fn sweep<F: Fingerprint<Works>, P: Decoded>(
 
 /// Forgets those keys, where there are so many that it is time to, and says how many will be enough
 /// the next time: twice as many as are left, and some more.
-pub(crate) fn sweep_at<F: Fingerprint<Works>, P: Decoded>(
+pub(crate) fn sweep_at<F: Fingerprint<RequestBodies>, P: Decoded>(
     alloc: Global,
     sweep_threshold: usize,
-    keys: &mut Keys<Works, F>,
+    keys: &mut Keys<RequestBodies, F>,
     numbers: &[Option<KeyId>],
     mark: &Option<Mark>,
     cache: &PictureCache<KeyId, P>,

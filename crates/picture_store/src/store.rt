@@ -2,46 +2,43 @@
 
 ghost use Rattle.std.specs.Prelude.{◌≡◌, ℕ, ◌≤◌, ◌<◌, ◌↔◌, true, false, [], length, Contains, IsPermutation, None, Some, IsTrue, IfOk, OnOk, OnErr, slice_get};
 ghost use Rattle.std.specs.List.{zip};
-ghost use Rattle.held_pictures.specs.Bounded.{most_room};
-ghost use Rattle.picture_keys.specs.Stretches.{IsLeast};
+ghost use Rattle.held_pictures.specs.Bounded.{most_capacity};
+ghost use Rattle.picture_keys.specs.Ranges.{IsLeast};
 ghost use Rattle.picture_keys.specs.Units.{AreDifferent};
 ghost use Rattle.picture_keys.specs.Decodable.{AllCanDecode};
 ghost use Rattle.picture_store.specs.Pictures.{all_of};
 ghost use Rattle.picture_store.specs.Stores.{compared_in, empty, AreNumbered, AreOneToOne, IsNumberInUse};
 ghost use Rattle.picture_store.specs.Changes.{RefitsLosing};
-ghost use Rattle.picture_store.specs.Jobs.{TellsTake};
+ghost use Rattle.picture_store.specs.Jobs.{AnswersTakeWithUnit};
 ghost use Rattle.picture_store.specs.Showing.{IsNumberAt, IsPictureAt};
 ghost use Rattle.picture_store.specs.Needs.{TellNeeds};
 ghost use Rattle.picture_store.specs.Pending.{IsAnyOutBy, IsDueAt, IsPending};
-ghost use Rattle.picture_store.specs.TakingFor.{TellsGiven, TellsTakeFor};
-ghost use Rattle.picture_store.specs.Stretches.{IsStretch, ids_with, outcomes_with};
+ghost use Rattle.picture_store.specs.TakingFor.{TellsGiven, AnswersTakeWithUnitFor};
+ghost use Rattle.picture_store.specs.Splices.{IsSplice, ids_with, outcomes_with};
 
-mod columns;
 mod counts;
 mod landing;
 mod marking;
 mod releasing;
 mod returning;
 
-use crate::answers::{JobAt, StretchTaken};
-use crate::changing::changed_by;
+use crate::answers::{JobAt, SpliceTaken, TakeRefused};
+use crate::changing::{UnitSplice, changed_by};
 use crate::due::{first_due, first_to_do};
 use crate::inputs::input_of;
 use crate::job_out::{JobOut, lower_all};
 use crate::mark::Mark;
 use crate::recounting::{forget_released, make_ready, recount};
-use crate::refitting::{keys_from, make_room, put_stretch, sweep_at};
-use crate::refusals::TakeRefused;
+use crate::refitting::{keys_from, put_splice, reserve, sweep_at};
 use crate::schedule::{Schedule, earliest_due, schedule_for};
-use crate::stretch::Stretch;
 use checkpoints::Checkpoints;
 use decode_jobs::dep_keys::{KeyId, Keys, Sha256Fingerprint};
 use decode_jobs::{Decoded, Job};
 use h264_types::base::{Shared, replace_range};
 use h264_types::pictures::AuId;
-use held_pictures::key_slots::{Places, Units};
+use held_pictures::key_slots::{KeySlots, Units};
 use held_pictures::picture_cache::PictureCache;
-use picture_keys::{HashedOutcome, Works};
+use picture_keys::{HashedOutcome, RequestBodies};
 use request_core::State;
 use std::alloc::{AllocError, Global};
 use std::marker::Model;
@@ -53,13 +50,13 @@ use std::marker::Model;
 #[derive(Debug)]
 pub struct PictureStore<P: Decoded> {
     alloc: Global,
-    keys: Keys<Works, Sha256Fingerprint>,
+    keys: Keys<RequestBodies, Sha256Fingerprint>,
     ids: Vec<AuId>,
     outcomes: Vec<Shared<HashedOutcome>>,
     numbers: Vec<Option<KeyId>>,
     // How many keys there are where it is time to forget those that aren't needed.
     sweep_threshold: usize,
-    places: Places<P>,
+    key_slots: KeySlots<P>,
     cache: PictureCache<KeyId, P>,
     jobs_out: Vec<JobOut<P>>,
     jobs_given: u64,
@@ -84,7 +81,7 @@ impl<P: Decoded> Drop for PictureStore<P> {
             outcomes: _,
             numbers: _,
             sweep_threshold: _,
-            places: _,
+            key_slots: _,
             cache: _,
             jobs_out: _,
             jobs_given: _,
@@ -101,15 +98,15 @@ impl<P: Decoded> Model for PictureStore<P> {
     ghost use Rattle.std.specs.Coded.{codes};
     ghost use Rattle.std.specs.Map.{keys_of as numbers_of, values_of};
     ghost use Rattle.decode_jobs.specs.Trees.{tree_code};
-    ghost use Rattle.picture_keys.specs.contracts.works.Works as works;
+    ghost use Rattle.picture_keys.specs.contracts.request_bodies.RequestBodies as bodies;
     ghost use Rattle.picture_store.specs.Stores.{StoreValue};
 
     ghost Value = { StoreValue P };
 
-    ghost coded = { Prim.hlevel (codes, tree_code works.the_row.coded, P.code) };
+    ghost coded = { Prim.hlevel (codes, tree_code bodies.the_row.coded, P.code) };
 
-    ghost use Rattle.held_pictures.specs.Places.{numbers_held, pictures_held};
-    ghost use Rattle.picture_store.specs.Kept.{keys_for, jobs_for};
+    ghost use Rattle.held_pictures.specs.KeySlots.{numbers_held, pictures_held};
+    ghost use Rattle.picture_store.specs.Stored.{keys_for, jobs_for};
     ghost use Rattle.picture_store.specs.Marks.{marked_for};
     ghost use Rattle.picture_store.specs.Settled.{IsStored};
 
@@ -117,11 +114,11 @@ impl<P: Decoded> Model for PictureStore<P> {
       ids = s.ids.items;
       outcomes = s.outcomes.items;
       numbers = s.numbers.items;
-      room = s.cache.capacity;
-      held = keys_for s.keys (numbers_held s.places);
+      capacity = s.cache.capacity;
+      held = keys_for s.keys (numbers_held s.key_slots);
       cached = keys_for s.keys (numbers_of s.cache.pairs);
       pictures = record {
-        held = pictures_held s.places;
+        held = pictures_held s.key_slots;
         cached = values_of s.cache.pairs;
         released = s.released.items;
       };
@@ -131,16 +128,16 @@ impl<P: Decoded> Model for PictureStore<P> {
     } };
 
     ghost invariant = { λ s. IsStored P.IsDecoded P.IsOf s.keys s.ids.items s.outcomes.items
-        s.numbers.items s.places s.cache.pairs s.jobs_out.items s.units_settled s.units_not_due
+        s.numbers.items s.key_slots s.cache.pairs s.jobs_out.items s.units_settled s.units_not_due
         s.schedule s.mark };
 }
 
 impl<P: Decoded> PictureStore<P> {
     /// A store for an empty stream, which caches so many pictures at most, 1 to `MOST_ROOM`.
-    pub fn new(alloc: Global, room: u16) -> Result<PictureStore<P>, AllocError>
-        requires least { 1 ≤ room }
-        requires most { room ≤ most_room }
-        ensures { IfOk result (λ store. store ≡ empty room) }
+    pub fn new(alloc: Global, capacity: u16) -> Result<PictureStore<P>, AllocError>
+        requires least { 1 ≤ capacity }
+        requires most { capacity ≤ most_capacity }
+        ensures { IfOk result (λ store. store ≡ empty capacity) }
     {
         Ok(PictureStore {
             alloc,
@@ -149,8 +146,8 @@ impl<P: Decoded> PictureStore<P> {
             outcomes: Vec::new(alloc),
             numbers: Vec::new(alloc),
             sweep_threshold: 0,
-            places: Places::new(alloc),
-            cache: PictureCache::new(alloc, room)?,
+            key_slots: KeySlots::new(alloc),
+            cache: PictureCache::new(alloc, capacity)?,
             jobs_out: Vec::new(alloc),
             jobs_given: 0,
             units_settled: 0,
@@ -170,30 +167,30 @@ impl<P: Decoded> PictureStore<P> {
         self.numbers.as_slice()
     }
 
-    /// Takes a stretch of units in the place of another one. A picture whose key stays in use stays
+    /// Puts the units of a splice in the place of others. A picture whose key stays in use stays
     /// held, and one that is cached is held again where its key comes into use. Where memory runs
     /// out, nothing changes; but a picture whose key goes out of use is cached only where memory is
     /// found for it, and `refit` answers how many were lost so. Those, and what goes out of the
     /// cache, are released, or forgotten where the host has no picture back. It answers too which
     /// units changed.
     ///
-    /// The keys of the units in front of the stretch stay as they are; those of its units and of
+    /// The keys of the units in front of the splice stay as they are; those of its units and of
     /// the units after it are found anew, as pictures refer to earlier ones, up to the first place
     /// at which a state of the stream as it was is stored and the keys of all frames that it marks
     /// are what they were: from there on they stay too.
     pub fn refit(
         &mut self,
-        stretch: Stretch,
+        splice: UnitSplice,
         states: &Checkpoints<State>,
-    ) -> Result<StretchTaken, AllocError>
-        requires stretch { IsStretch stretch self.old.ids }
+    ) -> Result<SpliceTaken, AllocError>
+        requires splice { IsSplice splice self.old.ids }
         requires different { AreDifferent self.old.ids }
-        requires apart { AreDifferent (ids_with stretch self.old.ids) }
+        requires apart { AreDifferent (ids_with splice self.old.ids) }
         requires decodable { AllCanDecode []
-            (zip (ids_with stretch self.old.ids) (outcomes_with stretch self.old.outcomes)) }
+            (zip (ids_with splice self.old.ids) (outcomes_with splice self.old.outcomes)) }
         requires told { TellNeeds states.now.states self.old.ids self.old.outcomes }
         ensures ok { IfOk result (λ taken. RefitsLosing self.old
-            (ids_with stretch self.old.ids) (outcomes_with stretch self.old.outcomes)
+            (ids_with splice self.old.ids) (outcomes_with splice self.old.outcomes)
             taken.lost self.new) }
         ensures changed { IfOk result (λ taken. IsLeast (compared_in self.old)
             (compared_in self.new) taken.changed) }
@@ -205,7 +202,7 @@ impl<P: Decoded> PictureStore<P> {
     {
         self.sweep()?;
         self.schedule = None;
-        make_room(&mut self.ids, &mut self.outcomes, stretch.ids.len())?;
+        reserve(&mut self.ids, &mut self.outcomes, splice.ids.len())?;
         let (past, later) = keys_from(
             self.alloc,
             &mut self.keys,
@@ -213,19 +210,19 @@ impl<P: Decoded> PictureStore<P> {
             &self.outcomes,
             &self.numbers,
             states,
-            &stretch,
+            &splice,
         )?;
         let leaving = make_ready(
             self.alloc,
             &mut self.numbers,
-            &mut self.places,
+            &mut self.key_slots,
             &mut self.released,
-            stretch.from,
+            splice.from,
             past,
             &later,
         )?;
         let lost = recount(
-            &mut self.places,
+            &mut self.key_slots,
             &mut self.cache,
             &later,
             &leaving,
@@ -236,17 +233,17 @@ impl<P: Decoded> PictureStore<P> {
             &self.ids,
             &self.outcomes,
             &self.numbers,
-            &stretch,
+            &splice,
             past,
             &later,
         );
-        let from = stretch.from;
-        put_stretch(&mut self.ids, &mut self.outcomes, stretch);
+        let from = splice.from;
+        put_splice(&mut self.ids, &mut self.outcomes, splice);
         replace_range(&mut self.numbers, from, past, later);
         self.units_settled = self.units_settled.min(from);
         self.units_not_due = self.units_not_due.min(from);
         lower_all(&mut self.jobs_out, from);
-        Ok(StretchTaken { lost, changed })
+        Ok(SpliceTaken { lost, changed })
     }
 
     /// Forgets the keys that are neither stored, nor marked, nor below one that is, where there may
@@ -273,7 +270,7 @@ impl<P: Decoded> PictureStore<P> {
         requires { at < length self.now.ids }
         ensures { IsPictureAt P.IsOf self.now at result }
     {
-        self.places.get(self.numbers[at]?)?
+        self.key_slots.get(self.numbers[at]?)?
     }
 
     /// The number of the key of the unit at a place of the stream; nothing where it isn't valid.
@@ -292,18 +289,18 @@ impl<P: Decoded> PictureStore<P> {
         ensures listed { IsTrue result ↔ Contains self.now.numbers (Some key) }
         ensures one { AreOneToOne self.now self.now }
     {
-        self.places.get(key).is_some()
+        self.key_slots.get(key).is_some()
     }
 
     /// Gives the earliest picture that is due to be decoded, under the next number.
     pub fn take(&mut self) -> Result<Option<JobAt<P>>, TakeRefused>
-        ensures tells { TellsTake P.IsOf self.old result self.new }
+        ensures tells { AnswersTakeWithUnit P.IsOf self.old result self.new }
         // A pending unit stays so only as long as a job is out.
         ensures waits { IfOk result (λ told. told ≡ None
             → (at : ℕ) → IsPending self.old at → IsAnyOutBy self.old at) }
     {
         let settled = first_to_do(
-            &self.places,
+            &self.key_slots,
             &self.jobs_out,
             &self.numbers,
             self.units_settled,
@@ -312,7 +309,7 @@ impl<P: Decoded> PictureStore<P> {
         let from = settled.max(self.units_not_due);
         let due = first_due(
             &self.keys,
-            &self.places,
+            &self.key_slots,
             &self.jobs_out,
             &self.numbers,
             from,
@@ -334,14 +331,14 @@ impl<P: Decoded> PictureStore<P> {
     /// jobs are given and results land between them.
     pub fn take_for(&mut self, at: usize) -> Result<Option<JobAt<P>>, TakeRefused>
         requires { at < length self.old.ids }
-        ensures tells { TellsTakeFor P.IsOf self.old at result self.new }
+        ensures tells { AnswersTakeWithUnitFor P.IsOf self.old at result self.new }
         // A pending unit stays so only as long as the job of a unit that it needs is out.
         ensures waits { IfOk result (λ told. told ≡ None
             → IsPending self.old at → IsAnyOutBy self.old at) }
     {
         let units = Units {
             keys: &self.keys,
-            places: &self.places,
+            key_slots: &self.key_slots,
             ids: &self.ids,
             outcomes: &self.outcomes,
             numbers: &self.numbers,
@@ -351,7 +348,7 @@ impl<P: Decoded> PictureStore<P> {
         let queue = &mut schedule.queue;
         let due = earliest_due(
             &self.keys,
-            &self.places,
+            &self.key_slots,
             &self.jobs_out,
             &self.numbers,
             queue,
@@ -373,7 +370,7 @@ impl<P: Decoded> PictureStore<P> {
             return Err(TakeRefused::JobsSpent);
         };
         let outcome = &self.outcomes[at];
-        let input = input_of(self.alloc, &self.keys, &self.places, outcome, key)?;
+        let input = input_of(self.alloc, &self.keys, &self.key_slots, outcome, key)?;
         self.jobs_out.reserve(1)?;
         let copy = input.copy(self.alloc)?;
         self.jobs_out.push_reserved(JobOut {

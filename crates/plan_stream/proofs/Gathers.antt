@@ -5,12 +5,12 @@ use Rattle.std.proofs.lemmas.List.{get_or_append_left, get_or_at, take-append-le
 use Rattle.std.proofs.lemmas.List.Elements.{All-nil, All-cons, All-append}
 use Rattle.annexb.specs.ByteStream.{HasUnits, joined}
 use Rattle.access_unit.specs.Answers.{IsAccepted, IsRefused}
-use Rattle.access_unit.specs.Rooms.{IsStreamRefused, most_units}
+use Rattle.access_unit.specs.StreamUnits.{IsStreamRefused, most_units}
 use Rattle.access_unit.specs.Streams.{AreAccepted, IsFirstRefused}
 use Rattle.access_unit.specs.declared.refused.Refused.{Refused}
 use Rattle.access_unit.specs.declared.refused.Refused.TheVariants as refusals
-use Rattle.access_unit.specs.declared.room.Refusal.{Refusal}
-use Rattle.access_unit.specs.declared.room.Refusal.TheVariants.{Split, Unit, StreamFull}
+use Rattle.access_unit.specs.declared.stream_units.Refusal.{Refusal}
+use Rattle.access_unit.specs.declared.stream_units.Refusal.TheVariants.{Split, Unit, StreamFull}
 use Rattle.plan_stream.specs.Fronts.{IsFront}
 use Rattle.plan_stream.specs.Readings.{IsFrontRefused}
 use Rattle.plan_stream.proofs.Texts.{no_units_in_front, read_all, read_more, read_nothing}

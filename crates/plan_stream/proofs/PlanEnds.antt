@@ -2,8 +2,8 @@
 use Rattle.std.proofs.Common.{inl, inr, ℕ, List, Option, refl}
 use Rattle.std.specs.Io.KnownBytes.{Keeps}
 use Rattle.std.specs.Prelude.{Err, IsErrOf}
-use Rattle.access_unit.specs.Rooms.{IsStreamRefused, most_units}
-use Rattle.access_unit.specs.declared.room.Refusal.{Refusal}
+use Rattle.access_unit.specs.StreamUnits.{IsStreamRefused, most_units}
+use Rattle.access_unit.specs.declared.stream_units.Refusal.{Refusal}
 use Rattle.console_io.specs.Chunks.{AppendsFront}
 use Rattle.console_io.specs.declared.chunks.PrintFault.{PrintFault}
 use Rattle.console_io.specs.declared.chunks.PrintFault.TheVariants as print

@@ -16,8 +16,8 @@ use Rattle.access_unit.specs.Coded.{HasRest}
 use Rattle.access_unit.specs.Places.{IsWithin, units_at}
 use Rattle.plan_stream.specs.Fronts.{front_len}
 use Rattle.plan_stream.specs.Seen.{IsSeen}
-use Rattle.plan_stream.specs.declared.walk.Step.{Step}
-use Rattle.plan_stream.specs.declared.walk.Step.TheVariants.{On, Ends, Unseen, Lost}
+use Rattle.plan_stream.specs.declared.walk.WalkStep.{WalkStep}
+use Rattle.plan_stream.specs.declared.walk.WalkStep.TheVariants.{On, Ends, Unseen, Lost}
 use Rattle.plan_stream.specs.declared.walk.Walk.{Walk}
 use Rattle.plan_stream.specs.Walks.{AreKnown, IsWalkedTo, IsWalkedBy, IsWalkedOn, IsStep, IsEnd}
 use Rattle.plan_stream.proofs.Lengths.{ends_at_code, past_zeros, same_begins}
@@ -288,7 +288,7 @@ step-smaller bytes places old next has_slice at is walked after =
     less (Some next) after within = omega (arith, after)
 
 -- and another than that to the next unit is the last
-pub step-last : (bytes : List ℕ) (is_over : Bool) (at : ℕ) (walk : Walk) (step : Step) → step ≢ On → IsStep bytes is_over at walk step
+pub step-last : (bytes : List ℕ) (is_over : Bool) (at : ℕ) (walk : Walk) (step : WalkStep) → step ≢ On → IsStep bytes is_over at walk step
     → IsWalkedOn bytes is_over walk step
 step-last bytes is_over at walk On other h = absurd (other refl)
 step-last bytes is_over at walk (Ends len) other h = h

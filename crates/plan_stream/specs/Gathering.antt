@@ -1,10 +1,10 @@
 -- What a stream comes to, as far as it is read.
 use Rattle.std.specs.Prelude.{◌≡◌, ℕ, ◌<◌, ◌≤◌, List, Option, None, Some, length}
 use Rattle.annexb.specs.ByteStream.{HasUnits}
-use Rattle.access_unit.specs.Rooms.{IsStream, most_units}
+use Rattle.access_unit.specs.StreamUnits.{IsStream, most_units}
 use Rattle.access_unit.specs.Streams.{AreAccepted, IsFirstRefused}
-use Rattle.access_unit.specs.declared.room.Refusal.{Refusal}
-use Rattle.access_unit.specs.declared.room.Refusal.TheVariants.{Split, Unit, StreamFull}
+use Rattle.access_unit.specs.declared.stream_units.Refusal.{Refusal}
+use Rattle.access_unit.specs.declared.stream_units.Refusal.TheVariants.{Split, Unit, StreamFull}
 use Rattle.plan_stream.specs.Readings.{IsReadTo}
 use Rattle.plan_stream.specs.declared.gathering.StreamGathering.{StreamGathering}
 

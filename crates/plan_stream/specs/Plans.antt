@@ -2,11 +2,11 @@
 use Rattle.std.specs.Prelude.{◌≡◌, ℕ, ◌≤◌, List, length, Option, ◌⊎◌}
 use Rattle.std.specs.Io.KnownBytes.{Appends, Keeps}
 use Rattle.console_io.specs.Chunks.{AppendsFront}
-use Rattle.access_unit.specs.Rooms.{IsStream, IsStreamRefused, most_units}
+use Rattle.access_unit.specs.StreamUnits.{IsStream, IsStreamRefused, most_units}
 use Rattle.unit_printing.specs.Refusals.{refusal_text}
 use Rattle.plan_stream.specs.Streams.{numbered_from}
 use Rattle.plan_stream.specs.StreamText.{stream_text}
-use Rattle.access_unit.specs.declared.room.Refusal.{Refusal}
+use Rattle.access_unit.specs.declared.stream_units.Refusal.{Refusal}
 use Rattle.plan_stream.specs.declared.fault.PlanFault.{PlanFault}
 use Rattle.plan_stream.specs.declared.fault.PlanFault.TheVariants.{Unread, Refused, Memory, Unwritten}
 

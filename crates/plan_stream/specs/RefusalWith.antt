@@ -2,8 +2,8 @@
 use Rattle.std.specs.Prelude.{ℕ, Option, None, Some}
 use Rattle.access_unit.specs.declared.refused.Refused.{Refused}
 use Rattle.access_unit.specs.declared.refused.Refused.TheVariants as refusals
-use Rattle.access_unit.specs.declared.room.Refusal.{Refusal}
-use Rattle.access_unit.specs.declared.room.Refusal.TheVariants.{Split, Unit, StreamFull}
+use Rattle.access_unit.specs.declared.stream_units.Refusal.{Refusal}
+use Rattle.access_unit.specs.declared.stream_units.Refusal.TheVariants.{Split, Unit, StreamFull}
 
 -- the access unit at this index is the first that is refused, unless one before it was, or the
 -- stream doesn't split

@@ -5,8 +5,8 @@ use Rattle.annexb.specs.ByteStream.{start_code, HasUnits}
 use Rattle.access_unit.specs.Coded.{HasRest}
 use Rattle.access_unit.specs.Places.{IsWithin, units_at}
 use Rattle.plan_stream.specs.Fronts.{front_len}
-use Rattle.plan_stream.specs.declared.walk.Step.{Step}
-use Rattle.plan_stream.specs.declared.walk.Step.TheVariants.{On, Ends, Unseen}
+use Rattle.plan_stream.specs.declared.walk.WalkStep.{WalkStep}
+use Rattle.plan_stream.specs.declared.walk.WalkStep.TheVariants.{On, Ends, Unseen}
 use Rattle.plan_stream.specs.declared.walk.Walk.{Walk}
 
 -- where there are places at all, the NAL units of the text stand at them
@@ -42,12 +42,12 @@ pub record IsEnd (bytes : List ℕ) (is_over : Bool) (places : List (Range ℕ))
   pub known : AreKnown (take len bytes) places
 
 -- what the walk comes to at last
-abbrev pub IsWalkedOn : List ℕ → Bool → Walk → Step → Type 0
+abbrev pub IsWalkedOn : List ℕ → Bool → Walk → WalkStep → Type 0
 IsWalkedOn bytes is_over walk (Ends len) = IsEnd bytes is_over walk.places.items len
 IsWalkedOn bytes is_over walk Unseen = IsWalked bytes walk
 IsWalkedOn bytes is_over walk step = ⊤
 
 -- what a step from this place on comes to
-abbrev pub IsStep : List ℕ → Bool → ℕ → Walk → Step → Type 0
+abbrev pub IsStep : List ℕ → Bool → ℕ → Walk → WalkStep → Type 0
 IsStep bytes is_over at walk On = IsWalked bytes walk × IfSome walk.next (λ next. at < next)
 IsStep bytes is_over at walk step = IsWalkedOn bytes is_over walk step

@@ -1,9 +1,12 @@
 //! The search for the end of an access unit's text (7.4.1.2.3).
 
-ghost use Rattle.std.specs.Prelude.{◌≡◌, ◌≤◌, ◌&&◌, ◌++◌, ℕ, List, [], None, length, true, false, IfSome, IsTrue};
+ghost use Rattle.std.specs.Prelude.{◌≡◌, ◌≤◌, ◌&&◌, ◌++◌, ℕ, List, [], None, length, true, false, IfSome, IsTrue, ◌<◌, ◌∷◌};
 ghost use Rattle.annexb.specs.AccessUnits.{begins_access_unit};
-ghost use Rattle.plan_stream.specs.Fronts.{front_len};
+ghost use Rattle.plan_stream.specs.Fronts.{front_len, IsFront};
 ghost use Rattle.plan_stream.specs.Seen.{IsSeen};
+ghost use Rattle.annexb.specs.ByteStream.{HasUnits};
+ghost use Rattle.access_unit.specs.Streams.{HasAccessUnits};
+ghost use Rattle.plan_stream.specs.Readings.{IsReadTo};
 
 use annexb::{START_CODE, begins_access_unit, is_slice};
 use memchr::memmem;
@@ -48,3 +51,18 @@ pub(crate) fn has_boundary(has_slice: bool, nal: &[u8]) -> bool
 {
     has_slice && begins_access_unit(nal)
 }
+
+/// The access units of a text are the NAL units of its fronts, one after the other; where the
+/// prefix of what is left has none, the text has none.
+pub fn fronts()
+    ensures none { (text : List ℕ) → IsReadTo text [] text }
+    ensures more { (text left front rest : List ℕ) (done : List (List (List ℕ)))
+        (part : List (List ℕ)) → IsReadTo text done left → IsFront left front rest
+        → HasUnits front part → IsReadTo text (done ++ part ∷ []) rest }
+    ensures all { (text : List ℕ) (done : List (List (List ℕ))) → IsReadTo text done []
+        → 0 < length done → HasAccessUnits text done }
+    ensures unsplit { (text left front rest : List ℕ) (done : List (List (List ℕ)))
+        → IsReadTo text done left → 0 < length left → IsFront left front rest
+        → ((part : List (List ℕ)) → ¬ HasUnits front part)
+        → (units : List (List ℕ)) → ¬ HasUnits text units }
+{}

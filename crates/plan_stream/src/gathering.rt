@@ -1,9 +1,9 @@
 //! A stream read and folded, access unit after access unit, or its refusal.
 
-ghost use Rattle.std.specs.Prelude.{◌≡◌, ◌≢◌, ◌<◌, ◌+◌, ◌^◌, [], List, ℕ, length, IfOk, IfErr, IfSome, OnOk};
+ghost use Rattle.std.specs.Prelude.{◌≡◌, ◌≢◌, ◌<◌, ◌+◌, ◌^◌, [], List, ℕ, length, IfOk, IfErr, IfSome, OnOk, ◌++◌, ◌∷◌};
 ghost use Rattle.annexb.specs.ByteStream.{HasUnits, joined};
 ghost use Rattle.access_unit.specs.Answers.{IsAccepted};
-ghost use Rattle.access_unit.specs.Rooms.{IsStreamRefused, most_units};
+ghost use Rattle.access_unit.specs.StreamUnits.{IsStreamRefused, most_units};
 ghost use Rattle.plan_stream.specs.Fronts.{IsFront};
 ghost use Rattle.plan_stream.specs.Readings.{IsFrontReadAs, IsFrontRefused};
 ghost use Rattle.plan_stream.specs.Gathering.{ComesTo, IsFoldOfStream, IsGathered};
@@ -11,14 +11,35 @@ ghost use Rattle.plan_stream.specs.RefusalWith.{refusal_with};
 ghost use Rattle.plan_stream.specs.Walks.{AreKnown};
 
 use crate::reading::read_held;
-use crate::room::Room;
-use crate::unit_fold::UnitFold;
+use crate::text_buffer::TextBuffer;
 use crate::{Window, read_front};
 use access_unit::{MOST_BYTES, MOST_UNITS, Refusal, Refused, Unit};
 use console_io::InputFault;
 use std::alloc::{AllocError, Global};
 use std::io::Read;
 use std::ops::Range;
+
+/// What the access units of a stream are folded into, one after the other.
+pub trait UnitFold {
+    // The first fold, after it took these access units, is the second.
+    ghost folds: { Self → List (List (List ℕ)) → Self → Type 0 };
+
+    // How many access units it took.
+    ghost count: { Self → ℕ };
+
+    /// How many access units it took.
+    fn len(&self) -> usize
+        ensures count { result ≡ count self.now }
+        ensures done { (first : Self) (done : List (List (List ℕ))) → folds first done self.now
+            → result ≡ length done };
+
+    /// Takes the next access unit. An error says that memory ran out, and leaves the fold
+    /// unspecified.
+    fn add(&mut self, alloc: Global, unit: &Unit) -> Result<(), AllocError>
+        requires { count self.old < most_units }
+        ensures { (first : Self) (done : List (List (List ℕ))) → folds first done self.old
+            → OnOk result (folds first (done ++ unit.now ∷ []) self.new) };
+}
 
 /// A stream as far as it was read: the fold of its access units, or why it is refused.
 #[derive(Drop)]
@@ -43,7 +64,7 @@ pub fn gather<R: Read, F: UnitFold + Drop>(
 {
     let mut window = Window::new(alloc)?;
     let mut gathering = StreamGathering::new(fold);
-    let mut room = Room::new(alloc);
+    let mut room = TextBuffer::new(alloc);
     while window.next_split(reader)? {
         gathering.add(alloc, &mut room, window.text(), window.places())?;
     }
@@ -67,7 +88,7 @@ impl<F: UnitFold + Drop> StreamGathering<F> {
     fn add(
         &mut self,
         alloc: Global,
-        room: &mut Room,
+        room: &mut TextBuffer,
         front: &[u8],
         places: &[Range<usize>],
     ) -> Result<(), AllocError>

@@ -12,23 +12,20 @@
 mod fault;
 mod front;
 mod gathering;
-mod laws;
 mod plan;
 mod plan_fold;
 mod printing;
 mod reading;
-mod room;
 mod shown;
 mod tails;
-mod unit_fold;
+mod text_buffer;
 mod walk;
 mod window;
 
 pub use fault::{PlanFault, say_plan_fault};
-pub use gathering::{StreamGathering, gather};
-pub use laws::fronts;
+pub use front::fronts;
+pub use gathering::{StreamGathering, UnitFold, gather};
 pub use plan::{plan_on, print_refusal};
 pub use reading::read_front;
 pub use shown::shown_of;
-pub use unit_fold::UnitFold;
 pub use window::Window;

@@ -1,11 +1,11 @@
 //! The fold over the units of a stream, with what is kept of each for its lines.
 
 ghost use Rattle.std.specs.Prelude.{◌≤◌, [], IfOk, length, vec_len};
-ghost use Rattle.access_unit.specs.Rooms.{most_units};
+ghost use Rattle.access_unit.specs.StreamUnits.{most_units};
 
+use crate::gathering::UnitFold;
 use crate::shown::shown_in;
 use crate::tails::Tails;
-use crate::unit_fold::UnitFold;
 use access_unit::Unit;
 use h264_types::pictures::AuId;
 use request_core::{State, UnitRead};

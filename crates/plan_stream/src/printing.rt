@@ -2,7 +2,7 @@
 
 ghost use Rattle.std.specs.Prelude.{◌≡◌, ◌≤◌, ◌++◌, List, ℕ, length, IsErrOf, OnErr, OnOk};
 ghost use Rattle.std.specs.Io.KnownBytes.{Appends};
-ghost use Rattle.access_unit.specs.Rooms.{most_units};
+ghost use Rattle.access_unit.specs.StreamUnits.{most_units};
 ghost use Rattle.console_io.specs.Chunks.{Adds, AppendsFront, waiting_of};
 ghost use Rattle.plan_stream.specs.Folds.{IsFoldOf, kept_text};
 ghost use Rattle.plan_stream.specs.Streams.{numbered_from};

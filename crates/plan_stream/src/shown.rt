@@ -2,10 +2,10 @@
 
 ghost use Rattle.std.specs.Prelude.{◌≡◌, []};
 ghost use Rattle.plan_stream.specs.Shown.{shown_of};
-ghost use Rattle.request_core.specs.Findings.{outcome_in};
+ghost use Rattle.request_core.specs.StepResults.{outcome_in};
 
 use h264_types::pictures::Counts;
-use request_core::Finding;
+use request_core::StepResult;
 use std::alloc::Global;
 use unit_outcomes::{Outcome, Plan, Requests};
 
@@ -21,18 +21,18 @@ pub fn shown_of(alloc: Global, outcome: &Outcome) -> Outcome
 }
 
 /// The outcome of a unit of which this is found, without its requests.
-pub(crate) fn shown_in(alloc: Global, finding: &Finding<'_>) -> Outcome
+pub(crate) fn shown_in(alloc: Global, finding: &StepResult<'_>) -> Outcome
     ensures { result ≡ shown_of (outcome_in finding.now) }
 {
     match finding {
-        Finding::Picture(picture) => shown_plan(
+        StepResult::Picture(picture) => shown_plan(
             alloc,
             picture.counts(),
             picture.order(),
             picture.begins_period(),
         ),
-        Finding::Fault(fault) => Outcome::Fault(*fault),
-        Finding::Empty => Outcome::Empty,
+        StepResult::Fault(fault) => Outcome::Fault(*fault),
+        StepResult::Empty => Outcome::Empty,
     }
 }
 

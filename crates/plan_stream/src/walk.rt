@@ -21,7 +21,7 @@ pub(crate) struct Walk {
 
 /// What one step comes to.
 #[derive(Drop)]
-enum Step {
+enum WalkStep {
     /// A NAL unit was passed, and another begins.
     On,
     /// The access unit ends here.
@@ -68,9 +68,9 @@ impl Walk {
         ensures more { result ≡ None → is_over ≡ false }
     {
         match self.go_on(bytes, is_over) {
-            Step::Ends(len) => Some(len),
-            Step::Unseen => None,
-            Step::On | Step::Lost => {
+            WalkStep::Ends(len) => Some(len),
+            WalkStep::Unseen => None,
+            WalkStep::On | WalkStep::Lost => {
                 self.clear();
                 front_len(bytes, is_over)
             }
@@ -78,19 +78,19 @@ impl Walk {
     }
 
     /// Walks on along the bytes, whose front was walked along before.
-    fn go_on(&mut self, bytes: &[u8], is_over: bool) -> Step
+    fn go_on(&mut self, bytes: &[u8], is_over: bool) -> WalkStep
         requires { IsWalked bytes.now self.old }
         ensures on { IsWalkedOn bytes.now is_over self.new result }
-        ensures more { result ≡ Step.Unseen → is_over ≡ false }
+        ensures more { result ≡ WalkStep.Unseen → is_over ≡ false }
     {
         self.begin(bytes);
         while let Some(at) = self.next {
             match self.step(bytes, at, is_over) {
-                Step::On => {}
+                WalkStep::On => {}
                 step => return step,
             }
         }
-        Step::Lost
+        WalkStep::Lost
     }
 
     /// Finds where the first NAL unit begins, if it isn't known.
@@ -104,33 +104,33 @@ impl Walk {
     }
 
     /// Passes the NAL unit that begins at the place, if it's one of the access unit.
-    fn step(&mut self, bytes: &[u8], at: usize, is_over: bool) -> Step
+    fn step(&mut self, bytes: &[u8], at: usize, is_over: bool) -> WalkStep
         requires next { self.old.next ≡ Some at }
         requires walked { IsWalked bytes.now self.old }
         ensures step { IsStep bytes.now is_over at self.new result }
-        ensures more { result ≡ Step.Unseen → is_over ≡ false }
+        ensures more { result ≡ WalkStep.Unseen → is_over ≡ false }
     {
         let rest = bytes.split_at(at).1;
         if !is_seen(rest, is_over) {
-            return Step::Unseen;
+            return WalkStep::Unseen;
         }
         if has_boundary(self.has_slice, rest) {
-            return Step::Ends(at - START_CODE.len());
+            return WalkStep::Ends(at - START_CODE.len());
         }
         let Ok(Found { nal, next }) = unit_at(bytes, at) else {
-            return Step::Lost;
+            return WalkStep::Lost;
         };
         if next.is_none() && !is_over {
-            return Step::Unseen;
+            return WalkStep::Unseen;
         }
         let Ok(()) = self.places.push(at..at + nal.bytes().len()) else {
-            return Step::Lost;
+            return WalkStep::Lost;
         };
         self.has_slice |= nal.is_slice();
         self.next = next;
         match next {
-            Some(_) => Step::On,
-            None => Step::Ends(bytes.len()),
+            Some(_) => WalkStep::On,
+            None => WalkStep::Ends(bytes.len()),
         }
     }
 }

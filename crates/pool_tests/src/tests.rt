@@ -17,7 +17,7 @@ mod wanted;
 use bytes::Bytes;
 use decode_pool::{Desk, Seat, finish};
 use h264_types::pictures::AuId;
-use stand_in_session::{Config, Edit, Place, Session, Shown};
+use stand_in_session::{Config, Edit, InsertionPoint, Session, Shown};
 use std::process::Abort;
 use std::sync::Wait;
 use std::sync::atomic::{AtomicBool, Ordering};
@@ -54,12 +54,15 @@ fn row_holds(rt: &impl Abort, row: usize, holds: bool) {
 
 /// The insertion of a text as the first unit.
 fn first(text: &'static [u8]) -> Edit {
-    Edit::Insert(Place::First, Bytes::from_static(text))
+    Edit::Insert(InsertionPoint::First, Bytes::from_static(text))
 }
 
 /// The insertion of a text after the unit of this number.
 fn after(id: u32, text: &'static [u8]) -> Edit {
-    Edit::Insert(Place::After(AuId::new(id)), Bytes::from_static(text))
+    Edit::Insert(
+        InsertionPoint::After(AuId::new(id)),
+        Bytes::from_static(text),
+    )
 }
 
 /// The replacement of the unit of this number by a text.

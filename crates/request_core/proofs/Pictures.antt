@@ -8,8 +8,8 @@ use Rattle.h264_types.specs.MarkedFrames.{Marked}
 use Rattle.slice_decoding.specs.MarksAfter.{marks_after}
 use Rattle.unit_outcomes.specs.declared.validity_fault.ValidityFault.{ValidityFault}
 use Rattle.unit_outcomes.specs.declared.outcome.Outcome.TheVariants.{Plan}
-use Rattle.slice_reading.specs.declared.stop.Stop.{Stop}
-use Rattle.slice_reading.specs.declared.stop.Stop.TheVariants.{Fault, Memory}
+use Rattle.slice_reading.specs.declared.unplanned.Unplanned.{Unplanned}
+use Rattle.slice_reading.specs.declared.unplanned.Unplanned.TheVariants.{Fault, Memory}
 use Rattle.slice_reading.specs.Answers.{Ends}
 use Rattle.request_core.specs.States.{FoldState}
 use Rattle.slice_reading.specs.Numbers.{gathered}
@@ -33,17 +33,17 @@ picture-is state id first slices counts with_lists marks followed counts_are lis
     bind-ok _ followed ∙ (bind-ok _ counts_are ∙ (bind-ok _ lists_are ∙ bind-ok _ marks_are))
 
 -- what ends one part ends the whole
-stopped : {Y Z : Type 0} (end : Stop) (says : Result Y ValidityFault) (f : Y → Result Z ValidityFault) → Ends end says → Ends end (says >>= f)
+stopped : {Y Z : Type 0} (end : Unplanned) (says : Result Y ValidityFault) (f : Y → Result Z ValidityFault) → Ends end says → Ends end (says >>= f)
 stopped (Fault fault) says f is = ap (λ answer. answer >>= f) is
 stopped Memory says f is = record {}
 
 -- and so does what ends the rest after a part that is done
-passed : {Y Z : Type 0} (end : Stop) (says : Result Y ValidityFault) (x : Y) (f : Y → Result Z ValidityFault)
+passed : {Y Z : Type 0} (end : Unplanned) (says : Result Y ValidityFault) (x : Y) (f : Y → Result Z ValidityFault)
     → says ≡ Ok x → Ends end (f x) → Ends end (says >>= f)
 passed (Fault fault) says x f is stops = ap (λ answer. answer >>= f) is ∙ stops
 passed Memory says x f is stops = record {}
 
-module _ (state : FoldState) (id : ℕ) (first : SliceRead) (slices : List SliceRead) (end : Stop) where
+module _ (state : FoldState) (id : ℕ) (first : SliceRead) (slices : List SliceRead) (end : Unplanned) where
   pub ends-followed : Ends end (passes (first_shown (picture_rows state first.sps first.header)))
       → Ends end (picture_after state id first slices)
   unfolding picture_after

@@ -4,7 +4,7 @@ use Rattle.annexb.specs.NalUnit.{is_slice}
 use Rattle.h264_types.specs.Chains.{◌>>=◌}
 use Rattle.access_unit.specs.Sets.{sets_of}
 use Rattle.h264_types.specs.declared.pictures.counts.Counts.{Counts}
-use Rattle.slice_decoding.specs.declared.order_count.fault.OrderRange as counting
+use Rattle.slice_decoding.specs.declared.order_count.counting.OrderRange as counting
 use Rattle.slice_decoding.specs.Anchors.{anchor_after_of}
 use Rattle.slice_decoding.specs.Counting.{counts_of}
 use Rattle.h264_types.specs.Pictures.{is_idr, is_reference}

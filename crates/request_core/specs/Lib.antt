@@ -3,6 +3,6 @@ pub mod Faults
 pub mod Requests
 pub mod Fold
 pub mod Pictures
-pub mod Findings
+pub mod StepResults
 pub mod Readings
 pub mod Agreement

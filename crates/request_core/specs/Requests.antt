@@ -6,7 +6,7 @@ use Rattle.h264_types.specs.declared.pictures.counts.Counts.{Counts}
 use Rattle.h264_types.specs.declared.pictures.frames.Frame.{Frame}
 use Rattle.h264_controls.specs.declared.controls.Controls.{Controls}
 use Rattle.h264_controls.specs.declared.request.Request.{Request}
-use Rattle.h264_controls.specs.declared.work.Work.{Work}
+use Rattle.h264_controls.specs.declared.request.RequestBody.{RequestBody}
 use Rattle.param_set_controls.specs.SetControls.{set_controls}
 use Rattle.h264_controls.specs.PredWeightsControl.{pred_weights_control}
 use Rattle.h264_controls.specs.SliceParamsControl.{slice_params_control}
@@ -29,9 +29,9 @@ controls_of frames counts listed = record {
   decode_params = decode_params_control frames listed.slice.sps listed.slice.header counts;
 }
 
--- the work of a slice
-abbrev pub work_of : List Frame → Counts → ListedSlice → Work
-work_of frames counts listed = record {
+-- the body of a slice
+abbrev pub body_of : List Frame → Counts → ListedSlice → RequestBody
+body_of frames counts listed = record {
   controls = controls_of frames counts listed;
   bytes = start_code ++ listed.slice.nal;
 }
@@ -39,7 +39,7 @@ work_of frames counts listed = record {
 -- the request of a slice; hold says that more slices follow
 abbrev pub request_of : List Frame → Counts → ℕ → ListedSlice → Bool → Request
 request_of frames counts id listed hold = record {
-  work = work_of frames counts listed;
+  body = body_of frames counts listed;
   timestamp = timestamp id;
   references = references frames listed.slice.header;
   hold = hold;

@@ -7,20 +7,17 @@
 #![tactic(auto)]
 
 mod checks;
-pub mod laws;
 mod picture;
 mod planning;
 mod reading;
 mod requesting;
-mod scratching;
 mod state;
 mod stepping;
 mod steps;
 
-pub use picture::{Finding, Listed, Picture};
+pub use picture::{Listed, PlannedPicture, StepResult};
 pub use reading::UnitRead;
-pub use scratching::scratch;
 pub use state::State;
-pub use stepping::step;
+pub use stepping::{scratch, step};
 pub use steps::Steps;
 pub use unit_outcomes::{Outcome, Plan, Requests, ValidityFault};

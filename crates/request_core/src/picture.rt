@@ -2,7 +2,7 @@
 
 ghost use Rattle.std.specs.Prelude.{◌≡◌, IfOk};
 ghost use Rattle.request_core.specs.Pictures.{plan_in};
-ghost use Rattle.request_core.specs.Findings.{outcome_in};
+ghost use Rattle.request_core.specs.StepResults.{outcome_in};
 
 use crate::requesting::requests_of;
 use h264_types::pictures::{AuId, Counts, Frame, List, Marks};
@@ -56,7 +56,7 @@ impl<'a> Listed<'a> {
 
 /// A picture that can be decoded after those before it. All that its requests say follows from it.
 #[derive(Debug, Drop)]
-pub struct Picture<'a> {
+pub struct PlannedPicture<'a> {
     /// Its unit.
     pub(crate) id: AuId,
     /// The frames that were marked before it.
@@ -70,7 +70,7 @@ pub struct Picture<'a> {
     pub(crate) slices: Vec<Listed<'a>>,
 }
 
-impl<'a> Model for Picture<'a> {
+impl<'a> Model for PlannedPicture<'a> {
     ghost use Rattle.request_core.specs.Pictures.{Pictured};
 
     ghost Value = { Pictured };
@@ -85,7 +85,7 @@ impl<'a> Model for Picture<'a> {
     } };
 }
 
-impl<'a> Picture<'a> {
+impl<'a> PlannedPicture<'a> {
     /// Its unit.
     pub fn id(&self) -> AuId
         ensures { result ≡ self.now.id }
@@ -149,22 +149,22 @@ impl<'a> Picture<'a> {
 
 /// What is found of a unit: a picture, or a fault, or nothing where it has no slice.
 #[derive(Debug, Drop)]
-pub enum Finding<'a> {
-    Picture(Picture<'a>),
+pub enum StepResult<'a> {
+    Picture(PlannedPicture<'a>),
     Fault(ValidityFault),
     /// The unit has no slice.
     Empty,
 }
 
-impl<'a> Finding<'a> {
+impl<'a> StepResult<'a> {
     /// The unit's outcome, for which requests are made.
     pub fn outcome(&self, alloc: Global) -> Result<Outcome, AllocError>
         ensures { IfOk result (λ outcome. outcome ≡ outcome_in self.now) }
     {
         match self {
-            Finding::Picture(picture) => Ok(Outcome::Plan(picture.plan(alloc)?)),
-            Finding::Fault(fault) => Ok(Outcome::Fault(*fault)),
-            Finding::Empty => Ok(Outcome::Empty),
+            StepResult::Picture(picture) => Ok(Outcome::Plan(picture.plan(alloc)?)),
+            StepResult::Fault(fault) => Ok(Outcome::Fault(*fault)),
+            StepResult::Empty => Ok(Outcome::Empty),
         }
     }
 }

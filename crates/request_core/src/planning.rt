@@ -17,12 +17,12 @@ use h264_types::pictures::{AuId, Counts, Marks};
 use slice_decoding::order_count::count;
 use slice_decoding::ref_lists::{ListFault, lists};
 use slice_decoding::ref_marking::{MarkFault, mark_in_place};
-use slice_reading::{Gathered, Slice, Stop};
+use slice_reading::{Gathered, Slice, Unplanned};
 use std::alloc::Global;
 use unit_outcomes::ValidityFault;
 
 /// The counts of the picture.
-pub(crate) fn count_picture(state: &State, slice: &Slice) -> Result<Counts, Stop>
+pub(crate) fn count_picture(state: &State, slice: &Slice) -> Result<Counts, Unplanned>
     ensures value { Answers result
         (counted (counts_of state.now.anchor slice.now.sps slice.now.header)) }
     ensures counted { IfOk result
@@ -32,7 +32,7 @@ pub(crate) fn count_picture(state: &State, slice: &Slice) -> Result<Counts, Stop
 {
     match count(&state.anchor, slice.sps(), slice.header()) {
         Ok(counts) => Ok(counts),
-        Err(_) => Err(Stop::Fault(ValidityFault::OrderRange)),
+        Err(_) => Err(Unplanned::Fault(ValidityFault::OrderRange)),
     }
 }
 
@@ -44,7 +44,7 @@ pub(crate) fn mark_picture(
     id: AuId,
     slice: &Slice,
     counts: Counts,
-) -> Result<Shared<Marks>, Stop>
+) -> Result<Shared<Marks>, Unplanned>
     requires { IsTrue (are_in_range (counts_after_reset slice.now.header counts)) }
     ensures { Answers result
         (marked (marks_after state.now.marks id slice.now.sps slice.now.header counts)) }
@@ -58,22 +58,29 @@ pub(crate) fn mark_picture(
 }
 
 /// Makes of the marked frames those after the picture.
-fn mark_reference(marks: &mut Marks, id: AuId, slice: &Slice, counts: Counts) -> Result<(), Stop>
+fn mark_reference(
+    marks: &mut Marks,
+    id: AuId,
+    slice: &Slice,
+    counts: Counts,
+) -> Result<(), Unplanned>
     requires { IsTrue (are_in_range (counts_after_reset slice.now.header counts)) }
     ensures { AnswersAs (λ done. marks.new) result
         (marked (marks_after marks.old id slice.now.sps slice.now.header counts)) }
 {
     match mark_in_place(marks, id, slice.sps(), slice.header(), counts) {
         Ok(()) => Ok(()),
-        Err(MarkFault::TooManyReferences) => Err(Stop::Fault(ValidityFault::TooManyReferences)),
-        Err(MarkFault::BadMarking | MarkFault::NoShortTerm) => Err(Stop::Fault(
+        Err(MarkFault::TooManyReferences) => Err(Unplanned::Fault(
+            ValidityFault::TooManyReferences,
+        )),
+        Err(MarkFault::BadMarking | MarkFault::NoShortTerm) => Err(Unplanned::Fault(
             ValidityFault::BadMarking,
         )),
     }
 }
 
 /// The slice with its lists.
-fn list_slice<'a>(marks: &Marks, counts: Counts, slice: &'a Slice) -> Result<Listed<'a>, Stop>
+fn list_slice<'a>(marks: &Marks, counts: Counts, slice: &'a Slice) -> Result<Listed<'a>, Unplanned>
     ensures { Answers result (listed marks.now counts slice.now) }
 {
     match lists(marks, slice.sps(), slice.header(), counts) {
@@ -82,7 +89,7 @@ fn list_slice<'a>(marks: &Marks, counts: Counts, slice: &'a Slice) -> Result<Lis
             list_0,
             list_1,
         }),
-        Err(fault) => Err(Stop::Fault(list_fault(fault))),
+        Err(fault) => Err(Unplanned::Fault(list_fault(fault))),
     }
 }
 
@@ -103,7 +110,7 @@ pub(crate) fn list_picture<'a>(
     state: &State,
     counts: Counts,
     slices: &'a [Slice],
-) -> Result<Vec<Listed<'a>>, Stop>
+) -> Result<Vec<Listed<'a>>, Unplanned>
     ensures { AnswersAs (λ listed. listed.items) result
         (gathered (map (listed state.now.marks counts) slices.now)) }
 {
@@ -116,7 +123,7 @@ fn list_slices<'a>(
     marks: &Marks,
     counts: Counts,
     slices: &'a [Slice],
-) -> Result<Vec<Listed<'a>>, Stop>
+) -> Result<Vec<Listed<'a>>, Unplanned>
     ensures { AnswersAs (λ listed. listed.items) result
         (gathered (map (listed marks.now counts) slices.now)) }
 {

@@ -5,16 +5,16 @@ ghost use Rattle.unit_outcomes.specs.declared.validity_fault.ValidityFault.{Vali
 ghost use Rattle.slice_reading.specs.Answers.{AnswersAs};
 ghost use Rattle.slice_reading.specs.Slices.{SliceRead};
 ghost use Rattle.request_core.specs.States.{FoldState};
-ghost use Rattle.request_core.specs.Findings.{step_in};
+ghost use Rattle.request_core.specs.StepResults.{step_in};
 ghost use Rattle.request_core.specs.Fold.{fold_step, with_sets};
 ghost use Rattle.request_core.specs.Readings.{ReadUnit, leads_to, read_of};
 
-use crate::picture::Finding;
+use crate::picture::StepResult;
 use crate::state::State;
 use crate::stepping::{pass, plan_picture};
 use access_unit::Unit;
 use h264_types::pictures::AuId;
-use slice_reading::{Slice, Stop, read_slices, tables_with};
+use slice_reading::{Slice, Unplanned, read_slices, tables_with};
 use std::alloc::{AllocError, Global};
 use std::marker::Model;
 use unit_outcomes::ValidityFault;
@@ -54,19 +54,23 @@ impl UnitRead {
 
     /// The state after the unit, and what is found of it: one step of the fold, which makes no
     /// requests.
-    pub fn step<'a>(&'a self, alloc: Global, id: AuId) -> Result<(State, Finding<'a>), AllocError>
+    pub fn step<'a>(
+        &'a self,
+        alloc: Global,
+        id: AuId,
+    ) -> Result<(State, StepResult<'a>), AllocError>
         ensures { (before : FoldState) (unit : List (List ℕ)) → self.now ≡ read_of before unit
             → IfOk result (λ step. step_in step ≡ fold_step before id unit) }
     {
         match self.planned(alloc, id) {
             Ok(step) => Ok(step),
-            Err(Stop::Fault(fault)) => Ok((self.state.copy()?, Finding::Fault(fault))),
-            Err(Stop::Memory) => Err(AllocError),
+            Err(Unplanned::Fault(fault)) => Ok((self.state.copy()?, StepResult::Fault(fault))),
+            Err(Unplanned::Memory) => Err(AllocError),
         }
     }
 
     /// What the unit leads to.
-    fn planned<'a>(&'a self, alloc: Global, id: AuId) -> Result<(State, Finding<'a>), Stop>
+    fn planned<'a>(&'a self, alloc: Global, id: AuId) -> Result<(State, StepResult<'a>), Unplanned>
         ensures { AnswersAs step_in result (leads_to self.now id) }
     {
         pass(self.fault)?;
@@ -91,7 +95,7 @@ fn with_sets(alloc: Global, state: &State, unit: &Unit) -> Result<State, AllocEr
 fn with_slices(
     alloc: Global,
     state: State,
-    slices: Result<Vec<Slice>, Stop>,
+    slices: Result<Vec<Slice>, Unplanned>,
 ) -> Result<UnitRead, AllocError>
     ensures { (says : Result (List SliceRead) ValidityFault)
         → AnswersAs (λ slices. slices.items) slices says
@@ -103,11 +107,11 @@ fn with_slices(
             slices,
             fault: None,
         }),
-        Err(Stop::Fault(fault)) => Ok(UnitRead {
+        Err(Unplanned::Fault(fault)) => Ok(UnitRead {
             state,
             slices: Vec::new(alloc),
             fault: Some(fault),
         }),
-        Err(Stop::Memory) => Err(AllocError),
+        Err(Unplanned::Memory) => Err(AllocError),
     }
 }

@@ -6,8 +6,8 @@ ghost use Rattle.request_core.specs.Requests.{controls_of, request_of, requests_
 
 use crate::picture::Listed;
 use h264_controls::{
-    Controls, References, Request, V4l2CtrlH264DecodeParams, V4l2CtrlH264PredWeights,
-    V4l2CtrlH264SliceParams, Work,
+    Controls, References, Request, RequestBody, V4l2CtrlH264DecodeParams, V4l2CtrlH264PredWeights,
+    V4l2CtrlH264SliceParams,
 };
 use h264_types::base::Shared;
 use h264_types::param_sets::Sps;
@@ -99,13 +99,13 @@ fn request_of(
         ≡ request_of marks.now.frames counts id listed.now hold) }
 {
     let slice = listed.slice;
-    let work = Work {
+    let body = RequestBody {
         controls: controls_of(alloc, marks, counts, listed, before)?,
         bytes: slice.coded()?,
     };
     let references = References::of(alloc, marks, slice.header())?;
     Ok(Request {
-        work: Shared::new(alloc, work)?,
+        body: Shared::new(alloc, body)?,
         timestamp: id.timestamp(),
         references: shared_references(alloc, references, before)?,
         hold,

@@ -2,6 +2,7 @@
 
 ghost use Rattle.std.specs.Prelude.{◌≡◌, ◌↔◌, IfOk, IsTrue};
 ghost use Rattle.request_core.specs.States.{no_units};
+ghost use Rattle.request_core.specs.Agreement.{Agreement};
 
 use h264_types::base::Shared;
 use h264_types::param_sets::Sps;
@@ -128,3 +129,9 @@ fn same_active(a: &Option<Shared<Sps>>, b: &Option<Shared<Sps>>) -> bool
         _ => false,
     }
 }
+
+/// Where the folds over two streams agree in state, which `State::is_same` tests, they agree in all
+/// outcomes of further units, the same after both.
+pub fn agreement()
+    ensures { Agreement }
+{}

@@ -7,13 +7,13 @@ ghost use Rattle.h264_types.specs.PicOrderCnt.{are_in_range};
 ghost use Rattle.h264_types.specs.Resetting.{counts_after_reset};
 ghost use Rattle.slice_reading.specs.Faults.{first_shown};
 ghost use Rattle.request_core.specs.Faults.{picture_rows};
-ghost use Rattle.request_core.specs.Findings.{step_in};
-ghost use Rattle.request_core.specs.Fold.{passes, picture_after, picture_of, fold_step, state_after, plan_of, next_ref_frame_num};
+ghost use Rattle.request_core.specs.StepResults.{step_in};
+ghost use Rattle.request_core.specs.Fold.{passes, picture_after, picture_of, fold_step, state_after, plan_of, next_ref_frame_num, outcomes_of, outcomes_from};
 ghost use Rattle.request_core.specs.Pictures.{plan_in};
 ghost use Rattle.slice_reading.specs.Answers.{AnswersAs};
 
 use crate::checks::picture_fault;
-use crate::picture::{Finding, Listed, Picture};
+use crate::picture::{Listed, PlannedPicture, StepResult};
 use crate::planning::{count_picture, list_picture, mark_picture};
 use crate::reading::UnitRead;
 use crate::state::State;
@@ -23,7 +23,7 @@ use h264_types::base::Shared;
 use h264_types::param_sets::Sps;
 use h264_types::pictures::{AuId, Counts, Marks, after_reset, resets};
 use slice_decoding::order_count::anchor_after;
-use slice_reading::{Slice, Stop, slice_fault};
+use slice_reading::{Slice, Unplanned, slice_fault};
 use std::alloc::{AllocError, Global};
 use unit_outcomes::{Outcome, ValidityFault};
 
@@ -56,7 +56,7 @@ pub(crate) fn plan_picture<'a>(
     state: &'a State,
     id: AuId,
     slices: &'a [Slice],
-) -> Result<(State, Finding<'a>), Stop>
+) -> Result<(State, StepResult<'a>), Unplanned>
     ensures { AnswersAs step_in result (picture_of state.now id slices.now) }
 {
     match slices {
@@ -64,7 +64,7 @@ pub(crate) fn plan_picture<'a>(
             pass(slice_fault(first, others))?;
             plan_first(alloc, state, id, first, slices)
         }
-        [] => Ok((state.copy()?, Finding::Empty)),
+        [] => Ok((state.copy()?, StepResult::Empty)),
     }
 }
 
@@ -75,7 +75,7 @@ fn plan_first<'a>(
     id: AuId,
     first: &Slice,
     slices: &'a [Slice],
-) -> Result<(State, Finding<'a>), Stop>
+) -> Result<(State, StepResult<'a>), Unplanned>
     ensures { AnswersAs step_in result (picture_after state.now id first.now slices.now) }
 {
     follow(state, first)?;
@@ -84,7 +84,7 @@ fn plan_first<'a>(
     let marks = mark_picture(alloc, state, id, first, counts)?;
     let after = state_after(state, first, counts, marks)?;
     let picture = make_picture(state, id, first, counts, listed);
-    Ok((after, Finding::Picture(picture)))
+    Ok((after, StepResult::Picture(picture)))
 }
 
 /// The picture, of which requests can be made.
@@ -94,11 +94,11 @@ fn make_picture<'a>(
     first: &Slice,
     counts: Counts,
     slices: Vec<Listed<'a>>,
-) -> Picture<'a>
+) -> PlannedPicture<'a>
     requires { IsTrue (are_in_range (counts_after_reset first.now.header counts)) }
     ensures { plan_in result ≡ plan_of state.now id first.now counts slices.entry.items }
 {
-    Picture {
+    PlannedPicture {
         id,
         marks: &state.marks,
         counts,
@@ -109,7 +109,7 @@ fn make_picture<'a>(
 }
 
 /// Ends the planning at the first fault that the picture shows after those before it.
-fn follow(state: &State, first: &Slice) -> Result<(), Stop>
+fn follow(state: &State, first: &Slice) -> Result<(), Unplanned>
     ensures { AnswersAs (λ passed. record {}) result
         (passes (first_shown (picture_rows state.now first.now.sps first.now.header))) }
 {
@@ -117,11 +117,11 @@ fn follow(state: &State, first: &Slice) -> Result<(), Stop>
 }
 
 /// Ends the planning at a fault.
-pub(crate) fn pass(fault: Option<ValidityFault>) -> Result<(), Stop>
+pub(crate) fn pass(fault: Option<ValidityFault>) -> Result<(), Unplanned>
     ensures { AnswersAs (λ passed. record {}) result (passes fault) }
 {
     match fault {
-        Some(fault) => Err(Stop::Fault(fault)),
+        Some(fault) => Err(Unplanned::Fault(fault)),
         None => Ok(()),
     }
 }
@@ -168,4 +168,21 @@ fn next_ref_frame_num(state: &State, slice: &Slice) -> u16
     } else {
         slice.header().frame_num
     }
+}
+
+/// Each unit's outcome of a stream, in order: the plain fold that other ways are compared with.
+///
+/// The units stand with their ids, which differ.
+pub fn scratch(alloc: Global, units: &[(AuId, Unit)]) -> Result<Vec<Outcome>, AllocError>
+    ensures { IfOk result (λ outcomes. outcomes.items ≡ outcomes_of units.now) }
+{
+    let mut state = State::new(alloc)?;
+    let mut steps = Steps::new();
+    let mut outcomes = Vec::with_capacity(alloc, units.len())?;
+    for unit in units {
+        let (after, outcome) = step(alloc, &state, unit.0, &unit.1, &mut steps)?;
+        state = after;
+        outcomes.push(outcome)?;
+    }
+    Ok(outcomes)
 }

@@ -1,6 +1,6 @@
 pub mod Sequenced
 pub mod Ran
-pub mod Told
+pub mod Unread
 pub mod Waits
 pub mod Judged
 pub mod Appended

@@ -12,7 +12,7 @@ use Rattle.held_pictures.proofs.Members.{among_map, among_source, first_or_among
 use Rattle.picture_store.proofs.Waiting.{never_stuck}
 use Rattle.picture_store.specs.declared.answers.Landing.{Landing}
 use Rattle.picture_store.specs.declared.answers.Landing.TheVariants as landing
-use Rattle.picture_store.specs.declared.refusals.TakeRefused.{TakeRefused}
+use Rattle.picture_store.specs.declared.answers.TakeRefused.{TakeRefused}
 use Rattle.picture_store.specs.Pending.{IsNeededBy, IsPending}
 use Rattle.picture_store.specs.Showing.{HasKey}
 use Rattle.stand_in_session.specs.Machines.{OutValue, StoreValue, Machine}
@@ -20,11 +20,11 @@ use Rattle.picture_store.specs.Stores.{units_of}
 use Rattle.stream_edits.specs.Edits.{Register}
 use Rattle.stream_edits.specs.Streams.{ids_of, place_of}
 use Rattle.request_core.specs.Fold.{outcomes_of}
-use Rattle.stand_in_session.specs.declared.refusals.NotOut.{NotOut}
+use Rattle.stand_in_session.specs.declared.replies.NotOut.{NotOut}
 use Rattle.stand_in_session.specs.declared.replies.TakenJob.{TakenJob}
 use Rattle.stand_in_session.specs.declared.commands.Command.TheVariants as told
 use Rattle.stream_session.specs.Machines.{store_of}
-use Rattle.stand_in_session.specs.Needing.{TakesFor, TellsTakeFor}
+use Rattle.stand_in_session.specs.Needing.{TakesFor, AnswersTakeWithUnitFor}
 use Rattle.stream_session.specs.Needing.{IsAnyOutFor, IsPendingIn}
 use Rattle.stand_in_session.specs.Runs.{LandsJob, TakesJob, TakesJobFor}
 use Rattle.stream_session.specs.Taken.{as_taken, taken_of}
@@ -188,7 +188,7 @@ lands_eases old unit job new lands =
     }
 
 -- where no needed unit's key is out, and none is due, the unit isn't pending
-not_pending : (old : Machine) (id : ℕ) (new : Machine) → TellsTakeFor old id (Ok None) new
+not_pending : (old : Machine) (id : ℕ) (new : Machine) → AnswersTakeWithUnitFor old id (Ok None) new
     → (IsAnyOutFor old id → ⊥) → IsPendingIn new id → ⊥
 not_pending old id new told none_out waits =
     let pending : IsPendingIn old id = subst (λ (m : Machine). IsPendingIn m id) told.1 waits in

@@ -2,7 +2,7 @@
 use Rattle.std.specs.Prelude.{ℕ, ◌++◌, Bool, List, codes, decimal, Option, Some, None, Result, Ok, Err}
 use Rattle.stream_edits.specs.declared.receipts.Receipt.{Receipt}
 use Rattle.stream_edits.specs.declared.refusals.EditRefused.{EditRefused}
-use Rattle.stream_session.specs.declared.refusals.NoSuchUnit.{NoSuchUnit}
+use Rattle.stream_session.specs.declared.showing.NoSuchUnit.{NoSuchUnit}
 use Rattle.stand_in_session.specs.declared.replies.Reply.{Reply}
 use Rattle.stand_in_session.specs.declared.replies.Reply.TheVariants as replies
 use Rattle.stand_in_session.specs.declared.replies.UnitReport.{UnitReport}

@@ -13,8 +13,8 @@ use Rattle.script_run.specs.declared.run_fault.RunFault.TheVariants.{Unread, Unw
 use Rattle.script_run.specs.SharedRunning.{WritesScriptTo}
 use Rattle.script_run.specs.SharedStops.{StopsText}
 use Rattle.script_run.specs.Verdicts.{IsVerdict, verdict_line}
-use Rattle.script_run.specs.declared.shared.verdict.Verdict.{Verdict}
-use Rattle.script_run.specs.declared.shared.verdict.Verdict.TheVariants.{Agreed, Disagrees}
+use Rattle.script_run.specs.declared.shared.audit.Verdict.{Verdict}
+use Rattle.script_run.specs.declared.shared.audit.Verdict.TheVariants.{Agreed, Disagrees}
 
 -- a desk's only seat ran the script of this text, and this is what the audit of its book comes to;
 -- what answers its lines went nowhere

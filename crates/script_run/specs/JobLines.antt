@@ -4,9 +4,9 @@ use Rattle.picture_store.specs.declared.answers.Landing.{Landing}
 use Rattle.picture_store.specs.declared.answers.Landing.TheVariants as landing
 use Rattle.picture_store.specs.declared.answers.Returning.{Returning}
 use Rattle.picture_store.specs.declared.answers.Returning.TheVariants as returning
-use Rattle.stand_in_session.specs.declared.refusals.NotOut.{NotOut}
-use Rattle.stand_in_session.specs.declared.dropping.Dropping.{Dropping}
-use Rattle.stand_in_session.specs.declared.dropping.Dropping.TheVariants as dropping
+use Rattle.stand_in_session.specs.declared.replies.NotOut.{NotOut}
+use Rattle.stand_in_session.specs.declared.jobs.Dropping.{Dropping}
+use Rattle.stand_in_session.specs.declared.jobs.Dropping.TheVariants as dropping
 use Rattle.stand_in_session.specs.declared.replies.TakenJob.{TakenJob}
 
 -- the line of a job that was taken, or that no picture is due

@@ -4,11 +4,11 @@ use Rattle.annexb.specs.ByteStream.{joined}
 use Rattle.stream_edits.specs.declared.edits.Edit.TheVariants.{Insert}
 use Rattle.stream_edits.specs.declared.receipts.Receipt.{Receipt}
 use Rattle.stream_edits.specs.declared.refusals.EditRefused.{EditRefused}
-use Rattle.stand_in_session.specs.declared.commands.Command.{Command as Told}
+use Rattle.stand_in_session.specs.declared.commands.Command.{Command as Call}
 use Rattle.stand_in_session.specs.declared.commands.Command.TheVariants as told
 use Rattle.stand_in_session.specs.declared.replies.Reply.{Reply}
 use Rattle.stand_in_session.specs.declared.replies.Reply.TheVariants as replies
-use Rattle.stream_session.specs.declared.refusals.NoSuchUnit.{NoSuchUnit}
+use Rattle.stream_session.specs.declared.showing.NoSuchUnit.{NoSuchUnit}
 use Rattle.stand_in_session.specs.declared.replies.TakenJob.{TakenJob}
 use Rattle.stand_in_session.specs.declared.replies.UnitReport.{UnitReport}
 use Rattle.stream_edits.specs.Streams.{end_of, Stream}
@@ -22,14 +22,14 @@ use Rattle.script_run.specs.Sequences.{AreAnswered, AreWritten}
 use Rattle.script_run.specs.Settling.{Settles}
 use Rattle.script_run.specs.ToldUnits.{IsReportJson}
 use Rattle.console_io.specs.Inputs.{Files}
-use Rattle.access_unit.specs.Rooms.{IsStream, IsStreamRefused, most_units}
+use Rattle.access_unit.specs.StreamUnits.{IsStream, IsStreamRefused, most_units}
 use Rattle.unit_printing.specs.declared.json.json_line.JsonLine.{JsonLine}
 use Rattle.unit_printing.specs.Refusals.{refusal_text}
 use Rattle.edit_script.specs.SessionScripts.{IsSessionScript}
 use Rattle.edit_script.specs.Words.{id_of}
 use Rattle.edit_script.specs.declared.session_commands.SessionCommand.{SessionCommand}
 use Rattle.edit_script.specs.declared.session_commands.SessionCommand.TheVariants as command
-use Rattle.access_unit.specs.declared.room.Refusal.{Refusal}
+use Rattle.access_unit.specs.declared.stream_units.Refusal.{Refusal}
 
 -- the units that are left are inserted after the last one, each by an edit, of so many in all: to
 -- the end, or to the first edit that is refused
@@ -44,20 +44,20 @@ InsertsAll count old (part ∷ parts) lines new =
     × (lines ≡ refused_line refused))
 
 -- for how many more units a stream has room
-abbrev pub room_of : Stream → ℕ
-room_of stream = most_units - length stream
+abbrev pub capacity_of : Stream → ℕ
+capacity_of stream = most_units - length stream
 
 -- a text is loaded: its units are inserted, or it is refused and nothing changes
 abbrev pub Loads : Machine → List ℕ → List ℕ → Machine → Type 0
 Loads old text lines new =
-    ((parts : List (List (List ℕ))) × IsStream text parts × (length parts ≤ room_of old.register.stream)
+    ((parts : List (List (List ℕ))) × IsStream text parts × (length parts ≤ capacity_of old.register.stream)
     × InsertsAll (length parts) old parts lines new)
-    ⊎ ((refusal : Refusal) × IsStreamRefused text (room_of old.register.stream) refusal
+    ⊎ ((refusal : Refusal) × IsStreamRefused text (capacity_of old.register.stream) refusal
     × (lines ≡ refusal_text refusal) × (new ≡ old))
 
 -- the session replies to what it is told, and the lines are those of its reply, with a picture's
 -- digits or without; the number is the one asked for
-abbrev pub Follows : Bool → Machine → Told → ℕ → List ℕ → Machine → Type 0
+abbrev pub Follows : Bool → Machine → Call → ℕ → List ℕ → Machine → Type 0
 Follows hex old told number lines new =
     (reply : Reply) × Replies old told reply new × (reply_lines hex number reply ≡ Some lines)
 
@@ -101,8 +101,8 @@ module _ (says : JsonLine → List ℕ → Type 0) where
 
   -- the text is a script, and what answers its commands was written: they were run from the empty
   -- stream, for a cache of this room, and pictures have their digits or not
-  pub record WritesScript (files : Files) (text : List ℕ) (room : ℕ) (hex : Bool) (old new : Option (List ℕ)) : Type 0 where
+  pub record WritesScript (files : Files) (text : List ℕ) (capacity : ℕ) (hex : Bool) (old new : Option (List ℕ)) : Type 0 where
     pub commands : List SessionCommand
     pub last : Machine
     pub read : IsSessionScript text commands
-    pub answered : WritesRun files hex (empty room) commands last old new
+    pub answered : WritesRun files hex (empty capacity) commands last old new

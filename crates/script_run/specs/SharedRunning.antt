@@ -2,8 +2,8 @@
 -- step is one of the seat's calls, whose session no clause can name.
 use Rattle.std.specs.Prelude.{◌≡◌, ℕ, ◌-◌, ◌≤◌, Bool, List, [], ◌∷◌, length, Result, Ok, Err, Option, IfSome, ◌⊎◌}
 use Rattle.annexb.specs.ByteStream.{joined}
-use Rattle.access_unit.specs.Rooms.{IsStream, IsStreamRefused, most_units}
-use Rattle.access_unit.specs.declared.room.Refusal.{Refusal}
+use Rattle.access_unit.specs.StreamUnits.{IsStream, IsStreamRefused, most_units}
+use Rattle.access_unit.specs.declared.stream_units.Refusal.{Refusal}
 use Rattle.stream_edits.specs.declared.edits.Edit.{Edit}
 use Rattle.stream_edits.specs.declared.edits.Edit.TheVariants.{Insert}
 use Rattle.stream_edits.specs.declared.group_refused.GroupRefused.{GroupRefused}
@@ -12,7 +12,7 @@ use Rattle.stream_edits.specs.declared.receipts.Last.{Last}
 use Rattle.stream_edits.specs.declared.receipts.Receipt.{Receipt}
 use Rattle.stream_edits.specs.declared.refusals.EditRefused.{EditRefused}
 use Rattle.stream_edits.specs.declared.refusals.EditRefused.TheVariants as refusals
-use Rattle.stand_in_session.specs.declared.dropping.Dropping.{Dropping}
+use Rattle.stand_in_session.specs.declared.jobs.Dropping.{Dropping}
 use Rattle.stand_in_session.specs.Showing.{Shown}
 use Rattle.decode_pool.specs.Seats.{DropsOne, EditsGroupOne, EditsOne, IsLastOfOne, ShowsOne, WaitsForOne, WaitsForUnit}
 use Rattle.decode_pool.specs.declared.seat.Seat.{Seat}
@@ -79,15 +79,15 @@ InsertsAll count old (part ∷ parts) lines new =
     ⊎ ((refused : EditRefused) × InsertsLast old part (Err refused) new × (lines ≡ refused_line refused))
 
 -- for how many more units a stream has room, of a session that no clause can name
-abbrev pub IsRoomOfOne : ℕ → Type 0
-IsRoomOfOne room = (last : Last) × IsLastOfOne last × (room ≡ most_units - last.units)
+abbrev pub IsCapacityOfOne : ℕ → Type 0
+IsCapacityOfOne capacity = (last : Last) × IsLastOfOne last × (capacity ≡ most_units - last.units)
 
 -- a text is loaded: its units are inserted, or it is refused and the seat notes nothing
 abbrev pub Loads : Seat → List ℕ → List ℕ → Seat → Type 0
-Loads old text lines new = (room : ℕ) × IsRoomOfOne room
-    × (((parts : List (List (List ℕ))) × IsStream text parts × (length parts ≤ room)
+Loads old text lines new = (capacity : ℕ) × IsCapacityOfOne capacity
+    × (((parts : List (List (List ℕ))) × IsStream text parts × (length parts ≤ capacity)
     × InsertsAll (length parts) old parts lines new)
-    ⊎ ((refusal : Refusal) × IsStreamRefused text room refusal × (lines ≡ refusal_text refusal) × (new ≡ old)))
+    ⊎ ((refusal : Refusal) × IsStreamRefused text capacity refusal × (lines ≡ refusal_text refusal) × (new ≡ old)))
 
 -- a command is answered by the lines, and leads from one state of the seat to the other
 abbrev pub Answers : Files → Bool → Seat → SeatCommand → List ℕ → Seat → Type 0

@@ -23,15 +23,15 @@ module _ (says : JsonLine → List ℕ → Type 0) where
   -- a text isn't run to its end: there is no memory for its commands, this line is the first that
   -- is no command of a session, or its commands stop
   abbrev pub StopsText : Files → List ℕ → ℕ → Bool → RunFault → Type 0 → Option (List ℕ) → Option (List ℕ) → Type 0
-  StopsText files text room hex fault refused old new =
+  StopsText files text capacity hex fault refused old new =
       ((fault ≡ Memory) × Keeps old new)
       ⊎ ((number : ℕ) × HasFirstWrongForSession text number × (fault ≡ Script number) × Keeps old new)
       ⊎ ((commands : List SessionCommand) × IsSessionScript text commands
-      × StopsAt files hex (empty room) commands fault refused old new)
+      × StopsAt files hex (empty capacity) commands fault refused old new)
 
   -- the script of this name and text isn't run to its end by this fault: it can't be read, or its
   -- text isn't run
   abbrev pub StopsBy : Files → List ℕ → List ℕ → ℕ → Bool → RunFault → Type 0 → Option (List ℕ) → Option (List ℕ) → Type 0
-  StopsBy files name text room hex fault refused old new =
+  StopsBy files name text capacity hex fault refused old new =
       ((lent : Bor (List ℕ)) × (lent.now ≡ name) × (fault ≡ Unread lent) × Keeps old new)
-      ⊎ StopsText files text room hex fault refused old new
+      ⊎ StopsText files text capacity hex fault refused old new

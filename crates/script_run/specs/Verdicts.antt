@@ -5,8 +5,8 @@ use Rattle.seat_books.specs.declared.receipts.SeatReceipt.{SeatReceipt}
 use Rattle.seat_books.specs.declared.receipts.SeatReceipt.TheVariants as receipts
 use Rattle.decode_pool.specs.Finishing.{HasFault, IsFinished, LacksBook, is_edit}
 use Rattle.decode_pool.specs.declared.seat.Seat.{Seat}
-use Rattle.script_run.specs.declared.shared.verdict.Verdict.{Verdict}
-use Rattle.script_run.specs.declared.shared.verdict.Verdict.TheVariants.{Agreed, Disagrees}
+use Rattle.script_run.specs.declared.shared.audit.Verdict.{Verdict}
+use Rattle.script_run.specs.declared.shared.audit.Verdict.TheVariants.{Agreed, Disagrees}
 
 -- the line that says what an audit comes to
 abbrev pub verdict_line : Verdict → List ℕ

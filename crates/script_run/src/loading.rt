@@ -38,8 +38,8 @@ pub fn load<'a, S: Source>(
     ensures named { IfErr result (IsLoadFault path.entry) }
 {
     let text = shared_file(alloc, path, source)?;
-    let room = MOST_UNITS.saturating_sub(runner.session().last().units);
-    match read_units(threads, alloc, &text, room) {
+    let capacity = MOST_UNITS.saturating_sub(runner.session().last().units);
+    match read_units(threads, alloc, &text, capacity) {
         Ok(units) => Ok(insert_all(alloc, hash_units(threads, alloc, units)?, runner)?),
         Err(ReadFault::Refused(refusal)) => Ok(RefusalLine(refusal).to_string(alloc)?),
         Err(ReadFault::Memory) => Err(RunFault::Memory),

@@ -1,7 +1,14 @@
 //! With what a script is run.
 
 ghost use Rattle.std.specs.Prelude.{◌≤◌};
-ghost use Rattle.held_pictures.specs.Bounded.{most_room};
+ghost use Rattle.held_pictures.specs.Bounded.{most_capacity};
+
+/// What a run of a script reads: the script's text, and the files that it names.
+#[derive(Drop)]
+pub struct Script<R, S> {
+    pub text: R,
+    pub files: S,
+}
 
 /// With what a script is run.
 #[derive(Clone, Copy, Debug)]
@@ -12,5 +19,5 @@ pub struct Options<'a> {
     pub cache: u16,
     /// Whether pictures are shown with the digits of their hash.
     pub hex: bool,
-    ghost in_range: { (1 ≤ cache) × (cache ≤ most_room) },
+    ghost in_range: { (1 ≤ cache) × (cache ≤ most_capacity) },
 }

@@ -16,17 +16,15 @@ use crate::group_lines::{GroupLine, GroupRefusedLine};
 use crate::job_lines::{DroppedLine, GivenLine, LandedLine, TakenLine};
 use crate::loading::load;
 use crate::marking::{mark, say_altered};
-use crate::messages::say_run_fault;
-use crate::options::Options;
-use crate::run_fault::RunFault;
-use crate::script::Script;
+use crate::options::{Options, Script};
+use crate::run_fault::{RunFault, say_run_fault};
 use crate::settling::settle;
 use crate::shown_lines::shown_line;
 use console_io::{Console, Ended, Sink, Source, Status, whole_input, write_bytes};
 use edit_script::{SessionCommand as Command, id_of_number, read_session_script};
 use h264_types::pictures::AuId;
 use stand_in_session::{
-    Command as Told, Config, Doubt, NoSuchUnit, Reply, Runner, Session, UnitReport,
+    Command as Call, Config, Doubt, NoSuchUnit, Reply, Runner, Session, UnitReport,
 };
 use std::alloc::{AllocError, Global};
 use std::io::Read;
@@ -176,28 +174,28 @@ fn run_command<'a, J: Encoder, S: Source>(
             let unit = Some(id_of_number(number));
             Ok(settle(alloc, runner, unit)?)
         }
-        Command::Edit(edit) => Ok(follow(alloc, runner, Told::Edit(edit), 0, hex)?),
-        Command::Group(edits) => Ok(follow(alloc, runner, Told::Group(edits), 0, hex)?),
-        Command::Take => Ok(follow(alloc, runner, Told::Take, 0, hex)?),
-        Command::Clear => Ok(follow(alloc, runner, Told::ClearCache, 0, hex)?),
+        Command::Edit(edit) => Ok(follow(alloc, runner, Call::Edit(edit), 0, hex)?),
+        Command::Group(edits) => Ok(follow(alloc, runner, Call::Group(edits), 0, hex)?),
+        Command::Take => Ok(follow(alloc, runner, Call::Take, 0, hex)?),
+        Command::Clear => Ok(follow(alloc, runner, Call::ClearCache, 0, hex)?),
         Command::TakeFor { number } => {
-            let told = Told::TakeFor(id_of_number(number));
+            let told = Call::TakeFor(id_of_number(number));
             Ok(follow(alloc, runner, told, number, hex)?)
         }
-        Command::Land { number } => Ok(follow(alloc, runner, Told::Land(number), number, hex)?),
+        Command::Land { number } => Ok(follow(alloc, runner, Call::Land(number), number, hex)?),
         Command::GiveBack { number } => {
-            Ok(follow(alloc, runner, Told::GiveBack(number), number, hex)?)
+            Ok(follow(alloc, runner, Call::GiveBack(number), number, hex)?)
         }
         Command::Unit { number } => {
-            let told = Told::Unit(id_of_number(number));
+            let told = Call::Unit(id_of_number(number));
             Ok(follow(alloc, runner, told, number, hex)?)
         }
         Command::Show { number } => {
-            let told = Told::Show(id_of_number(number));
+            let told = Call::Show(id_of_number(number));
             Ok(follow(alloc, runner, told, number, hex)?)
         }
         Command::Drop { number } => {
-            let told = Told::Drop(id_of_number(number));
+            let told = Call::Drop(id_of_number(number));
             Ok(follow(alloc, runner, told, number, hex)?)
         }
     }
@@ -207,7 +205,7 @@ fn run_command<'a, J: Encoder, S: Source>(
 fn follow(
     alloc: Global,
     runner: &mut Runner,
-    told: Told,
+    told: Call,
     number: u64,
     hex: bool,
 ) -> Result<String, AllocError>
@@ -228,7 +226,7 @@ fn say_unit<J: Encoder>(
     ensures { IfOk result (λ line. SaysUnit J.says runner.old number
         (string_bytes line) runner.new) }
 {
-    let reply = runner.step(Told::Unit(id_of_number(number)))?;
+    let reply = runner.step(Call::Unit(id_of_number(number)))?;
     match &reply {
         Reply::Unit(report) => {
             let line = json_line(alloc, runner.session(), number, report)?;
@@ -252,15 +250,15 @@ fn json_line(
     match report {
         Ok(report) => {
             let (id, mode) = (id_of_number(number), DecodeMode::SliceBased);
-            let told = told_of(session, id)?;
-            JsonLine::of_told(alloc, mode, id, report.position, &report.outcome, told)
+            let told = doubt_of(session, id)?;
+            JsonLine::of_unit(alloc, mode, id, report.position, &report.outcome, told)
         }
         Err(NoSuchUnit) => Ok(JsonLine::of_no_unit(number)),
     }
 }
 
 /// What is told of the doubt of the unit of the id, which is there.
-fn told_of(session: &Session, id: AuId) -> Result<Doubt, AllocError>
+fn doubt_of(session: &Session, id: AuId) -> Result<Doubt, AllocError>
     ensures { IfOk result (IsToldOf session.now.register.stream id) }
 {
     let Some(at) = session.place(id) else {

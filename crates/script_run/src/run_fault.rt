@@ -3,9 +3,14 @@
 ghost use Rattle.std.specs.Prelude.{◌≡◌};
 ghost use Rattle.script_run.specs.RunFaults.{fault_of_input, fault_of_print, fault_of_script};
 ghost use Rattle.script_run.specs.declared.run_fault.RunFault.TheVariants.{Memory};
+ghost use Rattle.console_io.specs.Messages.{Tells};
+ghost use Rattle.script_run.specs.Messages.{run_fault_text, script_fault_text};
 
-use console_io::{InputFault, PrintFault};
+use console_io::{
+    InputFault, PrintFault, Sink, say_line, say_out_of_memory, say_unread, write_bytes,
+};
 use edit_script::ScriptFault;
+use itoa::Buffer;
 use std::alloc::{AllocError, AllocFailed};
 
 /// Why a script isn't run to its end.
@@ -69,4 +74,30 @@ impl<'a> From<ScriptFault> for RunFault<'a> {
             ScriptFault::Memory => RunFault::Memory,
         }
     }
+}
+
+/// Says why a script isn't run to its end. A writer that takes no more is known to who reads it.
+pub fn say_run_fault<E: Sink>(fault: RunFault<'_>, errors: &mut E) -> Result<(), PrintFault>
+    ensures { Tells result (E.refuses errors.new) (E.contents errors.old) (E.contents errors.new)
+        (run_fault_text fault.entry) }
+{
+    match fault {
+        RunFault::Unread(name) => say_unread(name, errors),
+        RunFault::Script(number) => say_script_fault(number, errors),
+        RunFault::Memory => say_out_of_memory(errors),
+        RunFault::Unwritten => write_bytes(errors, b""),
+    }
+}
+
+/// Says that the line of this number is no command.
+fn say_script_fault<E: Sink>(number: usize, errors: &mut E) -> Result<(), PrintFault>
+    ensures { Tells result (E.refuses errors.new) (E.contents errors.old) (E.contents errors.new)
+        (script_fault_text number) }
+{
+    let mut digits = Buffer::new();
+    say_line(
+        b"script fault at line ",
+        digits.format(number).as_bytes(),
+        errors,
+    )
 }

@@ -13,11 +13,8 @@ mod commands;
 mod ending;
 mod loading;
 mod nowhere;
-mod opening;
 mod run;
 mod threads;
-mod verdict;
-mod wanted_lines;
 
 pub use audit::{audit_with, audit_with_workers};
 pub use run::{script_with, script_with_workers};

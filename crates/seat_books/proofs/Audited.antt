@@ -7,7 +7,7 @@ use Rattle.stream_edits.specs.declared.edits.Edit.{Edit}
 use Rattle.seat_books.specs.declared.book.SeatBook.{SeatBook}
 use Rattle.seat_books.specs.declared.receipts.SeatReceipt.{SeatReceipt}
 use Rattle.seat_books.specs.Books.{Agrees, BookAgrees, FirstAgree, FirstBooksAgree}
-use Rattle.seat_books.proofs.Unique.{some_same}
+use Rattle.stream_edits.proofs.OneEdit.{some_same}
 
 -- below a number, or that number
 below_or : (k n : ℕ) → k < n + 1 → (k < n) ⊎ (k ≡ n)

@@ -30,7 +30,8 @@ use Rattle.seat_books.proofs.Fronts.{IsFront-next, LeadTo-next, length_next}
 use Rattle.seat_books.proofs.Gone.{AreGone-lost}
 use Rattle.seat_books.proofs.Numbers.{numbered_used, one_key}
 use Rattle.seat_books.proofs.Readies.{AreGone-same, AreReady-entry, AreReady-plain, AreReady-shown}
-use Rattle.seat_books.proofs.Unique.{all_edits, one_lead, some_same}
+use Rattle.stream_edits.proofs.OneEdit.{all_edits, some_same}
+use Rattle.seat_books.proofs.Unique.{one_lead}
 
 pub not_true : false ≡ true → ⊥
 not_true is = cc

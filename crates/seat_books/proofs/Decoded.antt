@@ -13,7 +13,7 @@ use Rattle.picture_store.specs.Stores.{AreOneToOne, IsNumberOf}
 use Rattle.picture_store.specs.Jobs as pictures
 use Rattle.stream_edits.specs.declared.edits.Edit.{Edit}
 use Rattle.stream_edits.specs.Edits.{Register}
-use Rattle.stand_in_session.specs.Jobs.{TellsTake, AnswersLand}
+use Rattle.stand_in_session.specs.Jobs.{AnswersTakeWithUnit, AnswersLand}
 use Rattle.stream_session.specs.Jobs.{IsFirstWith}
 use Rattle.stream_session.proofs.ByNumber.{same_machine}
 use Rattle.stream_session.specs.Machines.{store_of}
@@ -35,7 +35,7 @@ lone x y (zero, within, is) = sym is
 lone x y (suc at, within, is) = absurd (omega (arith, within))
 
 -- a job that is taken where none is out
-module _ (before mid : Machine) (id : ℕ) (job : JobValue) (told : TellsTake before (Ok (Some (id, job))) mid)
+module _ (before mid : Machine) (id : ℕ) (job : JobValue) (told : AnswersTakeWithUnit before (Ok (Some (id, job))) mid)
     (none : before.jobs_out ≡ []) where
   abbrev takes : pictures.Takes IsPicture (store_of before) job (store_of mid)
   takes = told.0.0
@@ -89,7 +89,7 @@ record Landed (before new : Machine) (key : Key) : Type 0 where
   cached_stays : new.cached ≡ before.cached
   out_none : new.jobs_out ≡ []
 
-module _ (before mid new : Machine) (id : ℕ) (job : JobValue) (told : TellsTake before (Ok (Some (id, job))) mid)
+module _ (before mid new : Machine) (id : ℕ) (job : JobValue) (told : AnswersTakeWithUnit before (Ok (Some (id, job))) mid)
     (none : before.jobs_out ≡ []) where
   abbrev out : OutValue
   out = given before mid id job told none
@@ -148,7 +148,7 @@ module _ (before mid new : Machine) (id : ℕ) (job : JobValue) (told : TellsTak
 -- the unit's key was forgotten, its picture was decoded, and the result lands
 pub IsReplayed-decoded : (journal : List (List Edit)) (books : List SeatBook) (seat : ℕ) (earlier : List SeatReceipt)
     (old new : Replay) (mid : Machine) (id : ℕ) (job : JobValue) (landing : Landing) → new.seat ≡ old.seat
-    → new.gone ≡ old.gone → (told : TellsTake old.session (Ok (Some (id, job))) mid)
+    → new.gone ≡ old.gone → (told : AnswersTakeWithUnit old.session (Ok (Some (id, job))) mid)
     → ((key : Key) → HasKey mid.register.stream id key → (number : ℕ) × IsNumberOf (store_of mid) key number
     × AreOneToOne (store_of mid) (store_of mid)
     × ((other : ℕ) → has new.ready other ≡ cond (eqb number other) false (has old.ready other)))
@@ -191,7 +191,7 @@ IsReplayed-decoded journal books seat earlier old new mid id job landing own gon
 
 -- the session after that
 pub Stays-decoded : (before mid new : Machine) (id : ℕ) (job : JobValue) (landing : Landing)
-    → TellsTake before (Ok (Some (id, job))) mid → AnswersLand mid job landing new → Stays before new
+    → AnswersTakeWithUnit before (Ok (Some (id, job))) mid → AnswersLand mid job landing new → Stays before new
 Stays-decoded before mid new id job landing told answer =
     let store : (store_of new).numbers ≡ (store_of mid).numbers = numbers_land (store_of mid) job landing (store_of new) answer.0 in
     record {
@@ -207,7 +207,7 @@ Stays-decoded before mid new id job landing told answer =
     numbers_land old job landings.Taken new answer = ap (λ (store : StoreValue). store.numbers) answer.2.3.4
 
 -- where no job is due, nothing changes
-pub none_taken : (old new : Machine) → TellsTake old (Ok None) new → new ≡ old
+pub none_taken : (old new : Machine) → AnswersTakeWithUnit old (Ok None) new → new ≡ old
 none_taken old new answer = same_machine old new answer.0.1 answer.1
 
 pub Stays-same : (old new : Machine) → new ≡ old → Stays old new

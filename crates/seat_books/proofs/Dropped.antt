@@ -8,8 +8,8 @@ use Rattle.picture_store.specs.Stores.{AreOneToOne, IsNumberOf}
 use Rattle.stream_edits.specs.declared.edits.Edit.{Edit}
 use Rattle.stream_edits.specs.Edits.{Register}
 use Rattle.stream_edits.specs.Streams.{Stream, place_of}
-use Rattle.stand_in_session.specs.declared.dropping.Dropping.{Dropping}
-use Rattle.stand_in_session.specs.declared.dropping.Dropping.TheVariants as dropping
+use Rattle.stand_in_session.specs.declared.jobs.Dropping.{Dropping}
+use Rattle.stand_in_session.specs.declared.jobs.Dropping.TheVariants as dropping
 use Rattle.stream_session.specs.declared.showing.Shown.TheVariants as shown
 use Rattle.stand_in_session.specs.Machines.{Machine}
 use Rattle.stream_session.specs.Machines.{store_of}

@@ -10,7 +10,7 @@ use Rattle.decode_jobs.specs.Keys.{Key}
 use Rattle.held_pictures.proofs.Members.{nowhere}
 use Rattle.picture_store.specs.Stores.{AreNumbered, AreOneToOne, IsNumberOf}
 use Rattle.stream_edits.specs.declared.edits.Edit.{Edit}
-use Rattle.stand_in_session.specs.declared.dropping.Dropping.TheVariants as dropping
+use Rattle.stand_in_session.specs.declared.jobs.Dropping.TheVariants as dropping
 use Rattle.stream_session.specs.declared.showing.Shown.TheVariants as shown
 use Rattle.stream_edits.specs.Edits.{Register}
 use Rattle.stand_in_session.specs.Machines.{Machine}

@@ -5,8 +5,8 @@ use Rattle.unit_outcomes.specs.declared.outcome.Outcome.TheVariants as outcomes
 use Rattle.decode_jobs.specs.Keys.{Key}
 use Rattle.stand_in_device.specs.KeyPictures.{picture_of_key}
 use Rattle.stream_edits.specs.declared.edits.Edit.{Edit}
-use Rattle.stand_in_session.specs.declared.dropping.Dropping.{Dropping}
-use Rattle.stand_in_session.specs.declared.dropping.Dropping.TheVariants as dropping
+use Rattle.stand_in_session.specs.declared.jobs.Dropping.{Dropping}
+use Rattle.stand_in_session.specs.declared.jobs.Dropping.TheVariants as dropping
 use Rattle.stand_in_session.specs.Showing.{Shown}
 use Rattle.stream_session.specs.declared.showing.Shown.TheVariants as shown
 use Rattle.stream_edits.specs.Streams.{Stream, place_of}

@@ -4,7 +4,7 @@ use Rattle.decode_jobs.specs.Keys.{Key}
 use Rattle.picture_store.specs.Stores.{IsNumberOf}
 use Rattle.stream_edits.specs.declared.edits.Edit.{Edit}
 use Rattle.stream_edits.specs.Streams.{Stream}
-use Rattle.stand_in_session.specs.declared.dropping.Dropping.TheVariants.{Dropped}
+use Rattle.stand_in_session.specs.declared.jobs.Dropping.TheVariants.{Dropped}
 use Rattle.stand_in_session.specs.Machines.{Machine}
 use Rattle.stream_session.specs.Machines.{store_of}
 use Rattle.stream_session.specs.Showing.{HasKey}

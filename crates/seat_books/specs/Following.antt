@@ -2,7 +2,7 @@
 use Rattle.std.specs.Prelude.{◌≡◌, ◌⊎◌, ◌↔◌, ℕ, ◌≤◌, Bool, List, [], ◌∷◌, ◌++◌, IsTrue, length, take, All, Contains}
 use Rattle.decode_jobs.specs.Keys.{Key}
 use Rattle.stream_edits.specs.declared.edits.Edit.{Edit}
-use Rattle.stand_in_session.specs.declared.dropping.Dropping.{Dropping}
+use Rattle.stand_in_session.specs.declared.jobs.Dropping.{Dropping}
 use Rattle.stand_in_session.specs.Showing.{Shown}
 use Rattle.stream_edits.specs.Groups.{MakesAll}
 use Rattle.picture_store.specs.Stores.{IsNumberOf}

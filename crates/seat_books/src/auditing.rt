@@ -9,10 +9,9 @@ ghost use Rattle.seat_books.specs.Faults.{IsFaultOf, IsFirstFault};
 ghost use Rattle.seat_books.specs.Noting.{AreNoted};
 ghost use Rattle.seat_books.specs.declared.book.SeatBook.{SeatBook as Book};
 
-use crate::book::SeatBook;
+use crate::book::{SeatBook, note};
 use crate::drop_table::DropTable;
 use crate::faults::AuditFault;
-use crate::noted::note;
 use crate::number_set::NumberSet;
 use crate::replay::Replay;
 use stand_in_session::JournalEntry;

@@ -3,9 +3,9 @@
 ghost use Rattle.std.specs.Prelude.{◌≡◌, ◌+◌, ◌≤◌, ℕ, List, Ok, Some, false, true, IfOk, IsErrOf, OnOk};
 ghost use Rattle.stand_in_device.specs.Jobs.{JobValue};
 ghost use Rattle.picture_store.specs.Jobs.{IsAnyDue, most_jobs};
-ghost use Rattle.picture_store.specs.declared.refusals.TakeRefused.TheVariants.{JobsSpent};
+ghost use Rattle.picture_store.specs.declared.answers.TakeRefused.TheVariants.{JobsSpent};
 ghost use Rattle.stream_edits.specs.declared.edits.Edit.{Edit as EditValue};
-ghost use Rattle.stand_in_session.specs.Jobs.{TellsTake};
+ghost use Rattle.stand_in_session.specs.Jobs.{AnswersTakeWithUnit};
 ghost use Rattle.stand_in_session.specs.Machines.{Machine};
 ghost use Rattle.stream_session.specs.Machines.{store_of};
 ghost use Rattle.seat_books.specs.declared.book.SeatBook.{SeatBook as Book};
@@ -68,7 +68,7 @@ impl Replay {
             → self.new.session.jobs ≡ self.old.session.jobs + 1) }
         ensures spent { IsErrOf result JobsSpent → self.new.session.jobs ≡ most_jobs }
     {
-        match self.session.take_told() {
+        match self.session.take_with_unit() {
             Ok(Some((id, job))) => self.decode(id, job),
             Ok(None) => Ok(false),
             Err(refused) => Err(refused),
@@ -79,11 +79,11 @@ impl Replay {
     /// ready of its key was so before the key went out of use, as its picture wasn't held.
     fn decode(&mut self, id: AuId, job: Job) -> Result<bool, TakeRefused>
         ensures stays { IfOk result (λ _. (before : Machine)
-            → TellsTake before (Ok (Some (id, job))) self.old.session
+            → AnswersTakeWithUnit before (Ok (Some (id, job))) self.old.session
             → Stays before self.new.session) }
         ensures follows { IfOk result (λ _. (before : Machine) (journal : List (List EditValue))
             (books : List Book) (seat : ℕ) (earlier : List Receipt)
-            → TellsTake before (Ok (Some (id, job))) self.old.session
+            → AnswersTakeWithUnit before (Ok (Some (id, job))) self.old.session
             → IsReplayed journal books seat earlier (record self.old { session = before })
             → IsReplayed journal books seat earlier self.new) }
         ensures due { IfOk result (λ was_due. was_due ≡ true) }

@@ -1,7 +1,7 @@
 -- What a server is, and what it takes (docs/SERVER.md).
 use Rattle.std.specs.Prelude.{Bool, codes}
 use Rattle.access_unit.specs.Refusals.{most_bytes}
-use Rattle.access_unit.specs.Rooms.{most_units}
+use Rattle.access_unit.specs.StreamUnits.{most_units}
 use Rattle.stream_edits.specs.Groups.{most_edits}
 use Rattle.serve_requests.specs.Fields.{most_told}
 use Rattle.serve_requests.specs.Methods.{methods}
@@ -10,7 +10,7 @@ use Rattle.serve_answers.specs.declared.introduction.Introduction.{Introduction}
 use Rattle.serve_answers.specs.declared.introduction.Limits.{Limits}
 
 -- how much a server takes at most: units of a stream, bytes and slices of a unit, edits of a group,
--- ids that are wanted, units that are told at once, stretches that a load left out, and bytes of a line
+-- ids that are wanted, units that are told at once, ranges that a load left out, and bytes of a line
 abbrev pub limits : Limits
 limits = record {
   units = most_units;

@@ -15,7 +15,7 @@ use Rattle.serve_answers.specs.declared.job_answers.RequestAnswer.{RequestAnswer
 abbrev pub request_answer : Request → RequestAnswer
 request_answer request = record {
   request = request_json request;
-  text = encode_of standard request.work.bytes;
+  text = encode_of standard request.body.bytes;
 }
 
 -- a picture that a job needs

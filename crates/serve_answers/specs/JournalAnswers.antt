@@ -4,14 +4,14 @@ use Rattle.base64.specs.Engines.{standard}
 use Rattle.base64.specs.GeneralPurpose.{encode_of}
 use Rattle.stream_edits.specs.declared.edits.Edit.{Edit as EditValue}
 use Rattle.stream_edits.specs.declared.edits.Edit.TheVariants as edits
-use Rattle.stream_edits.specs.declared.edits.Place.{Place}
-use Rattle.stream_edits.specs.declared.edits.Place.TheVariants.{First, After}
+use Rattle.stream_edits.specs.declared.edits.InsertionPoint.{InsertionPoint}
+use Rattle.stream_edits.specs.declared.edits.InsertionPoint.TheVariants.{First, After}
 use Rattle.serve_answers.specs.declared.journal_answers.EditAnswer.{EditAnswer}
 use Rattle.serve_answers.specs.declared.journal_answers.EditAnswer.TheVariants.{Insert, Delete, Replace}
 use Rattle.serve_answers.specs.declared.journal_answers.EntryAnswer.{EntryAnswer}
 
 -- the id of the unit behind which one is inserted; none before all
-abbrev pub after_of : Place → Option ℕ
+abbrev pub after_of : InsertionPoint → Option ℕ
 after_of First = None
 after_of (After id) = Some id
 

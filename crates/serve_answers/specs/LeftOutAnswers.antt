@@ -4,7 +4,7 @@ use Rattle.stream_mending.specs.Told.{why_text}
 use Rattle.stream_mending.specs.declared.why.LeftOut.{LeftOut}
 use Rattle.serve_answers.specs.declared.left_out_answers.LeftOutAnswer.{LeftOutAnswer}
 
--- how many of the stretches that are left out are told at most
+-- how many of the ranges that are left out are told at most
 abbrev pub most_left_out : ℕ
 most_left_out = 1000
 

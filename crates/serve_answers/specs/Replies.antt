@@ -2,9 +2,9 @@
 use Rattle.std.specs.Prelude.{Option, Some, None, Result, Ok, Err}
 use Rattle.hex.specs.Hex.{encode_lower}
 use Rattle.unit_outcomes.specs.Numbers.{number_of}
-use Rattle.stand_in_session.specs.declared.refusals.NotOut.{NotOut}
-use Rattle.stand_in_session.specs.declared.dropping.Dropping.{Dropping}
-use Rattle.stand_in_session.specs.declared.dropping.Dropping.TheVariants as dropping
+use Rattle.stand_in_session.specs.declared.replies.NotOut.{NotOut}
+use Rattle.stand_in_session.specs.declared.jobs.Dropping.{Dropping}
+use Rattle.stand_in_session.specs.declared.jobs.Dropping.TheVariants as dropping
 use Rattle.stand_in_session.specs.Showing.{Shown}
 use Rattle.stream_session.specs.declared.showing.Shown.TheVariants as shown
 use Rattle.picture_store.specs.declared.answers.Landing.{Landing}
@@ -17,28 +17,28 @@ use Rattle.stream_edits.specs.declared.receipts.Receipt.{Receipt}
 use Rattle.stream_edits.specs.declared.refusals.EditRefused.{EditRefused}
 use Rattle.serve_requests.specs.declared.failure.Failure.{Failure}
 use Rattle.serve_requests.specs.declared.failure.Failure.TheVariants.{Refused}
-use Rattle.serve_requests.specs.declared.failure.Refusal.TheVariants as refusal
+use Rattle.serve_requests.specs.declared.failure.CallRefusal.TheVariants as refusal
 use Rattle.picture_keys.specs.declared.changed_units.changed.Changed.{Changed}
-use Rattle.serve_answers.specs.declared.answer.Stretch.{Stretch}
+use Rattle.serve_answers.specs.declared.answer.UnitRange.{UnitRange}
 use Rattle.serve_answers.specs.declared.answer.Answer.{Answer}
 use Rattle.serve_answers.specs.declared.answer.Answer.TheVariants.{Edited, Grouped, Shown as Shows, Word}
 use Rattle.serve_answers.specs.declared.answer.Appearance.TheVariants as appearance
-use Rattle.serve_answers.specs.declared.answer.State.{State}
-use Rattle.serve_answers.specs.declared.answer.State.TheVariants as state
+use Rattle.serve_answers.specs.declared.answer.UnitState.{UnitState}
+use Rattle.serve_answers.specs.declared.answer.UnitState.TheVariants as state
 use Rattle.serve_answers.specs.declared.words.Word.TheVariants as word
 
--- the stretch that an edit changed
-abbrev pub stretch_of : Changed → Stretch
-stretch_of changed = record { from = changed.from; count = changed.count }
+-- the range that an edit changed
+abbrev pub range_of : Changed → UnitRange
+range_of changed = record { from = changed.from; count = changed.count }
 
 -- the result of an edit
 abbrev pub edit_answer : Result Receipt EditRefused → Result Answer Failure
-edit_answer (Ok receipt) = Ok (Edited receipt.number receipt.id receipt.steps (stretch_of receipt.changed))
+edit_answer (Ok receipt) = Ok (Edited receipt.number receipt.id receipt.steps (range_of receipt.changed))
 edit_answer (Err refused) = Err (Refused (refusal.Edit refused))
 
 -- the result of a group of edits
 abbrev pub group_answer : Result GroupReceipt GroupRefused → Result Answer Failure
-group_answer (Ok receipt) = Ok (Grouped receipt.number receipt.ids.items receipt.steps (stretch_of receipt.changed))
+group_answer (Ok receipt) = Ok (Grouped receipt.number receipt.ids.items receipt.steps (range_of receipt.changed))
 group_answer (Err refused) = Err (Refused (refusal.Group refused))
 
 -- the result of what is shown of a unit
@@ -50,7 +50,7 @@ show_answer shown.Empty = Ok (Shows appearance.Empty)
 show_answer shown.NoSuchUnit = Err (Refused refusal.NoSuchUnit)
 
 -- what is shown of a unit, unless it is a picture
-abbrev pub state_of : Shown → Option State
+abbrev pub state_of : Shown → Option UnitState
 state_of (shown.Ready picture) = None
 state_of shown.Pending = Some state.Pending
 state_of (shown.Fault fault) = Some (state.Fault (number_of fault) fault)

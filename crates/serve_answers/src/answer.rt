@@ -1,7 +1,7 @@
 //! Results.
 
 ghost use Rattle.std.specs.Prelude.{◌≡◌};
-ghost use Rattle.serve_answers.specs.Replies.{stretch_of};
+ghost use Rattle.serve_answers.specs.Replies.{range_of};
 
 use crate::introduction::Introduction;
 use crate::job_answers::JobAnswer;
@@ -27,7 +27,7 @@ pub enum Answer {
         units: usize,
         first: Option<u32>,
         last: Option<u32>,
-        changed: Stretch,
+        changed: UnitRange,
         #[serde(skip_serializing_if = "Option::is_none")]
         left_out: Option<Listed<LeftOutAnswer>>,
     },
@@ -42,7 +42,7 @@ pub enum Answer {
         edit: u64,
         id: u32,
         steps: u64,
-        changed: Stretch,
+        changed: UnitRange,
     },
     /// The number of a group, the ids of its edits' units, in how many steps of the fold it was made,
     /// and which units it changed.
@@ -51,7 +51,7 @@ pub enum Answer {
         #[serde(serialize_with = "write_ids")]
         ids: Listed<AuId>,
         steps: u64,
-        changed: Stretch,
+        changed: UnitRange,
     },
     /// The outcomes of units.
     Units(Listed<UnitAnswer>),
@@ -60,7 +60,7 @@ pub enum Answer {
         bytes: Digits,
     },
     /// The unit at an output position, if there is one.
-    Found(Option<Found>),
+    FoundUnit(Option<FoundUnit>),
     /// What is shown of a unit.
     Shown(Appearance),
     /// Which wanted units are ready, and which there are none of now.
@@ -80,20 +80,20 @@ pub enum Answer {
     Nothing,
 }
 
-/// A stretch of places.
+/// A range of places.
 #[derive(Clone, Copy, Debug, PartialEq, Eq, Serialize)]
-pub struct Stretch {
+pub struct UnitRange {
     /// The first place, from 0; 0 where there is none.
     pub from: u64,
     pub count: u64,
 }
 
-impl Stretch {
-    /// The stretch that an edit changed.
-    pub(crate) fn of(changed: Changed) -> Stretch
-        ensures { result ≡ stretch_of changed }
+impl UnitRange {
+    /// The range that an edit changed.
+    pub(crate) fn of(changed: Changed) -> UnitRange
+        ensures { result ≡ range_of changed }
     {
-        Stretch {
+        UnitRange {
             from: changed.from,
             count: changed.count,
         }
@@ -102,7 +102,7 @@ impl Stretch {
 
 /// The unit at an output position.
 #[derive(Clone, Copy, Debug, PartialEq, Eq, Serialize)]
-pub struct Found {
+pub struct FoundUnit {
     pub id: u32,
     /// Its place in decoding order.
     pub place: usize,
@@ -136,13 +136,13 @@ pub struct Picked {
 pub struct ChangedUnit {
     pub id: u64,
     #[serde(flatten)]
-    pub state: State,
+    pub state: UnitState,
 }
 
 /// What is shown of a unit without a picture, or that there is no unit.
 #[derive(Clone, Copy, Debug, PartialEq, Eq, Serialize)]
 #[serde(tag = "state", rename_all = "snake_case")]
-pub enum State {
+pub enum UnitState {
     Pending,
     Fault {
         number: u8,

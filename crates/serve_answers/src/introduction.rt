@@ -40,7 +40,7 @@ pub struct Limits {
     pub wanted: usize,
     /// The units that are told at once.
     pub count: usize,
-    /// The stretches of bytes that are told of what a load left out.
+    /// The ranges of bytes that are told of what a load left out.
     pub left_out: usize,
     /// The bytes of a line.
     pub message_bytes: usize,

@@ -11,7 +11,7 @@ use h264_types::pictures::AuId;
 use serde::Serialize;
 use serve_requests::Listed;
 use std::alloc::{AllocError, Global};
-use stream_edits::{Edit, JournalEntry, Place};
+use stream_edits::{Edit, InsertionPoint, JournalEntry};
 
 /// Edits that were accepted together.
 #[derive(Debug, Drop, Serialize)]
@@ -71,12 +71,12 @@ impl EditAnswer {
 }
 
 /// The id of the unit behind which one is inserted; none before all.
-fn after_of(place: Place) -> Option<u32>
+fn after_of(place: InsertionPoint) -> Option<u32>
     ensures { result ≡ after_of place }
 {
     match place {
-        Place::First => None,
-        Place::After(id) => Some(id.number()),
+        InsertionPoint::First => None,
+        InsertionPoint::After(id) => Some(id.number()),
     }
 }
 

@@ -9,7 +9,7 @@ use serve_requests::Listed;
 use std::alloc::{AllocError, Global};
 use stream_mending::LeftOut;
 
-/// How many of the stretches that are left out are told at most.
+/// How many of the ranges that are left out are told at most.
 pub(crate) const MOST_LEFT_OUT: usize = 1_000;
 
 /// Bytes that are left out.

@@ -18,12 +18,12 @@ mod reply;
 mod unit_answers;
 mod words;
 
-pub use answer::{Answer, Appearance, ChangedUnit, Found, Picked, State, Stats, Stretch};
+pub use answer::{Answer, Appearance, ChangedUnit, FoundUnit, Picked, Stats, UnitRange, UnitState};
 pub use introduction::{Introduction, Limits};
 pub use job_answers::{JobAnswer, ReferenceAnswer, RequestAnswer};
 pub use journal_answers::{EditAnswer, EntryAnswer};
 pub use left_out_answers::{LeftOutAnswer, of_left_out};
 pub use replies::{of_drop, of_edit, of_give_back, of_group, of_land, of_show, state_of};
 pub use reply::{failure_text, notification_text, result_text};
-pub use unit_answers::{PlanAnswer, Told, UnitAnswer};
+pub use unit_answers::{PlanAnswer, UnitAnswer, UnitFlags};
 pub use words::{Digits, Text, Word};

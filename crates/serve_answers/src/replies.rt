@@ -3,9 +3,9 @@
 ghost use Rattle.std.specs.Prelude.{◌≡◌, IfOk};
 ghost use Rattle.serve_answers.specs.Replies.{drop_answer, edit_answer, give_back_answer, group_answer, land_answer, show_answer, state_of};
 
-use crate::answer::{Answer, Appearance, State, Stretch};
+use crate::answer::{Answer, Appearance, UnitRange, UnitState};
 use crate::words::{Digits, Word};
-use serve_requests::{Failure, Listed, Refusal};
+use serve_requests::{CallRefusal, Failure, Listed};
 use stand_in_session::{
     Dropping, EditRefused, GroupReceipt, GroupRefused, Landing, NotOut, Receipt, Returning, Shown,
 };
@@ -20,9 +20,9 @@ pub fn of_edit(answer: Result<Receipt, EditRefused>) -> Result<Answer, Failure>
             edit: receipt.number,
             id: receipt.id.number(),
             steps: receipt.steps,
-            changed: Stretch::of(receipt.changed),
+            changed: UnitRange::of(receipt.changed),
         }),
-        Err(refused) => Err(Failure::Refused(Refusal::Edit(refused))),
+        Err(refused) => Err(Failure::Refused(CallRefusal::Edit(refused))),
     }
 }
 
@@ -43,10 +43,10 @@ pub fn of_group(answer: Result<GroupReceipt, GroupRefused>) -> Result<Answer, Fa
                 edit: number,
                 ids: Listed::new(ids),
                 steps,
-                changed: Stretch::of(changed),
+                changed: UnitRange::of(changed),
             })
         }
-        Err(refused) => Err(Failure::Refused(Refusal::Group(refused))),
+        Err(refused) => Err(Failure::Refused(CallRefusal::Group(refused))),
     }
 }
 
@@ -64,24 +64,24 @@ pub fn of_show(alloc: Global, shown: Shown) -> Result<Result<Answer, Failure>, A
             name: fault,
         },
         Shown::Empty => Appearance::Empty,
-        Shown::NoSuchUnit => return Ok(Err(Failure::Refused(Refusal::NoSuchUnit))),
+        Shown::NoSuchUnit => return Ok(Err(Failure::Refused(CallRefusal::NoSuchUnit))),
     };
     Ok(Ok(Answer::Shown(appearance)))
 }
 
 /// What is shown of a unit, unless it is a picture.
-pub fn state_of(shown: Shown) -> Option<State>
+pub fn state_of(shown: Shown) -> Option<UnitState>
     ensures { result ≡ state_of shown }
 {
     match shown {
         Shown::Ready(_) => None,
-        Shown::Pending => Some(State::Pending),
-        Shown::Fault(fault) => Some(State::Fault {
+        Shown::Pending => Some(UnitState::Pending),
+        Shown::Fault(fault) => Some(UnitState::Fault {
             number: fault.number(),
             name: fault,
         }),
-        Shown::Empty => Some(State::Empty),
-        Shown::NoSuchUnit => Some(State::None),
+        Shown::Empty => Some(UnitState::Empty),
+        Shown::NoSuchUnit => Some(UnitState::None),
     }
 }
 
@@ -92,7 +92,7 @@ pub fn of_drop(answer: Dropping) -> Result<Answer, Failure>
     match answer {
         Dropping::Dropped => Ok(Answer::Word(Word::Dropped)),
         Dropping::NotHeld => Ok(Answer::Word(Word::NotHeld)),
-        Dropping::NoSuchUnit => Err(Failure::Refused(Refusal::NoSuchUnit)),
+        Dropping::NoSuchUnit => Err(Failure::Refused(CallRefusal::NoSuchUnit)),
     }
 }
 

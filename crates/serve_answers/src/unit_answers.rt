@@ -36,7 +36,7 @@ pub struct PlanAnswer {
 
 /// What is told of a unit beside its outcome.
 #[derive(Clone, Copy, Debug, PartialEq, Eq)]
-pub struct Told {
+pub struct UnitFlags {
     /// The break that it follows, and whether it is in doubt.
     pub doubt: Doubt,
     /// Whether it isn't what any unit was at the mark.
@@ -51,7 +51,7 @@ impl UnitAnswer {
         id: AuId,
         position: Option<usize>,
         outcome: &Outcome,
-        told: Told,
+        told: UnitFlags,
         controls: bool,
     ) -> Result<UnitAnswer, AllocError>
         ensures { IfOk result (λ answer. answer
@@ -65,7 +65,7 @@ impl UnitAnswer {
             }
             _ => {
                 let mode = DecodeMode::SliceBased;
-                let line = JsonLine::of_told(alloc, mode, id, position, outcome, told.doubt)?;
+                let line = JsonLine::of_unit(alloc, mode, id, position, outcome, told.doubt)?;
                 Ok(UnitAnswer::Line(line))
             }
         }
@@ -79,7 +79,7 @@ impl PlanAnswer {
         id: AuId,
         position: usize,
         plan: &Plan,
-        told: Told,
+        told: UnitFlags,
         controls: bool,
     ) -> Result<PlanAnswer, AllocError>
         ensures { IfOk result (λ answer. answer

@@ -6,4 +6,4 @@ mod Pages
 mod Recorded
 mod Remembered
 mod Replayed
-mod Told
+mod UnitFlags

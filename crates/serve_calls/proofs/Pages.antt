@@ -4,9 +4,9 @@ use Rattle.std.proofs.lemmas.Bool.{cases_lt}
 use Rattle.std.proofs.lemmas.List.{get_or_append_left, get_or_push, length-take, length-drop, length_push}
 use Rattle.unit_outcomes.specs.InDoubt.{AreDoubts, IsDoubt}
 use Rattle.unit_outcomes.specs.SeenUnits.{SeenUnit}
-use Rattle.unit_outcomes.specs.declared.doubts.doubt.Doubt.{Doubt}
+use Rattle.unit_outcomes.specs.declared.doubts.walk.Doubt.{Doubt}
 use Rattle.stand_in_session.specs.Machines.{Machine}
-use Rattle.serve_answers.specs.declared.unit_answers.Told.{Told}
+use Rattle.serve_answers.specs.declared.unit_answers.UnitFlags.{UnitFlags}
 use Rattle.serve_calls.specs.Answering.{AreToldFrom, IsToldAt}
 
 -- a page that has units begins at its place, and of another one nothing is told
@@ -24,7 +24,7 @@ pub told_none : (machine : Machine) (from : ℕ) (ids : List ℕ) → AreToldFro
 told_none machine from ids = record { long = refl; each = λ k unknown below. absurd (omega (arith, below)) }
 
 -- what is told of a unit more
-pub told_more : (machine : Machine) (from count : ℕ) (ids : List ℕ) (told : List Told) (one : Told)
+pub told_more : (machine : Machine) (from count : ℕ) (ids : List ℕ) (told : List UnitFlags) (one : UnitFlags)
     → AreToldFrom machine from count ids told → IsToldAt machine (from + count) (slice_index_or ids count 0) one
     → AreToldFrom machine from (count + 1) ids (told ++ one ∷ [])
 told_more machine from count ids told one are is = record {

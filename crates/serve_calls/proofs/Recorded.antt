@@ -1,9 +1,9 @@
 -- What is recorded of a load.
 use Rattle.std.proofs.Common.{◌≡◌, ℕ, List, Option, Result, Ok, Err, inl, inr, refl, subst, sym}
-use Rattle.access_unit.specs.Rooms.{IsStream}
+use Rattle.access_unit.specs.StreamUnits.{IsStream}
 use Rattle.stand_in_session.specs.Machines.{Machine}
 use Rattle.stream_edits.specs.declared.receipts.GroupReceipt.{GroupReceipt}
-use Rattle.session_journal.specs.declared.steps.step.Step.{Step}
+use Rattle.session_journal.specs.declared.steps.step.RecordedStep.{RecordedStep}
 use Rattle.session_journal.specs.declared.unkept.Unkept.{Unkept}
 use Rattle.session_journal.specs.declared.unkept.Unkept.TheVariants as unkept
 use Rattle.serve_requests.specs.declared.call.Loaded.{Loaded}
@@ -42,7 +42,7 @@ none-read (loaded.File name) failure (inl is) = subst (λ (it : Failure). AreMad
 none-read (loaded.File name) failure (inr is) = none-remembered failure is
 
 -- what is recorded of the units of a text is so by the result of the load too
-pub stream-recorded : (is_session : Machine → Type 0) (before after : List Step → Type 0) (text : List ℕ) (units : List (List (List ℕ)))
+pub stream-recorded : (is_session : Machine → Type 0) (before after : List RecordedStep → Type 0) (text : List ℕ) (units : List (List (List ℕ)))
     (left_out : Option (List LeftOutAnswer)) (inserted : Result Inserted Failure) → IsStream text units
     → RecordsInserted is_session before units inserted after
     → RecordsStream is_session before text (load_answer left_out inserted) after
@@ -52,7 +52,7 @@ stream-recorded is_session before after text units left_out (Ok inserted) stream
 stream-recorded is_session before after text units left_out (Err failure) stream (inr it) = inr it
 
 -- what is recorded of a group by the session's answer is so by the result too
-pub group-recorded : (before after : List Step → Type 0) (step : Step) (answer : Result GroupReceipt GroupFault)
+pub group-recorded : (before after : List RecordedStep → Type 0) (step : RecordedStep) (answer : Result GroupReceipt GroupFault)
     → RecordsIf before step answer after → RecordsIf before step (group_made_answer answer) after
 group-recorded before after step (Ok receipt) it = it
 group-recorded before after step (Err (group_fault.Refused refused)) it = it

@@ -10,7 +10,7 @@ use Rattle.stream_edits.specs.declared.receipts.GroupReceipt.{GroupReceipt}
 use Rattle.stream_edits.specs.declared.receipts.Receipt.{Receipt}
 use Rattle.stream_edits.specs.Edits.{Makes, Register}
 use Rattle.stream_edits.specs.Groups.{MakesAll}
-use Rattle.edit_history.specs.declared.undo_redo.prepared.Step.{Step}
+use Rattle.edit_history.specs.declared.undo_redo.prepared.OpenStep.{OpenStep}
 use Rattle.edit_history.specs.declared.undo_redo.undo_redo.UndoRedo.{UndoRedo}
 use Rattle.edit_history.specs.States.{IsAsBefore, IsUnderWay, IsUndoRedo}
 use Rattle.edit_history.proofs.UndoRedoLed.{kept-same}
@@ -63,7 +63,7 @@ undo-redo-same old new states register same is = record {
 }
 
 -- and a step that is under way stays so
-pub under-way-same : (old new : UndoRedo) (step : Step) (states : List Texts) (first : Texts) (register : Register) → IsAsBefore old new
+pub under-way-same : (old new : UndoRedo) (step : OpenStep) (states : List Texts) (first : Texts) (register : Register) → IsAsBefore old new
     → IsUnderWay old step states first register → IsUnderWay new step states first register
 under-way-same old new step states first register same way = record {
   kept = kept-same old.units new.units register same.units way.kept;
@@ -72,7 +72,7 @@ under-way-same old new step states first register same way = record {
 }
 
 -- a step of one edit, that is ended
-pub remembered : {T E : Type 0} (old begun made done : UndoRedo) (first last : Step) (answer : Result T E) (before after : Register)
+pub remembered : {T E : Type 0} (old begun made done : UndoRedo) (first last : OpenStep) (answer : Result T E) (before after : Register)
     → IsAsBefore old begun → first.changes.items ≡ []
     → ((states : List Texts) (register : Register) → IsUndoRedo old states register → IsUnderWay begun first states old.units.texts.items register)
     → made.history ≡ begun.history → GoesOnIf begun first before answer made last after
@@ -91,11 +91,11 @@ remembered old begun made done first last (Ok receipt) before after same empty b
       last = at_end some;
     }
 remembered old begun made done first last (Err refused) before after same empty begins kept goes ends at_end nothing =
-    subst (λ (it : UndoRedo). IsAsBefore old it) (sym (nothing (ap (λ (step : Step). step.changes.items) goes.1 ∙ empty)))
+    subst (λ (it : UndoRedo). IsAsBefore old it) (sym (nothing (ap (λ (step : OpenStep). step.changes.items) goes.1 ∙ empty)))
     (as-before old begun made same goes.0)
 
 -- so is an edit of a server
-pub edited : {B S : Type 0} (is_session : B → Machine → Type 0) (old begun made done : Server B S) (first last : Step) (edit : Edit)
+pub edited : {B S : Type 0} (is_session : B → Machine → Type 0) (old begun made done : Server B S) (first last : OpenStep) (edit : Edit)
     (answer : Result Receipt EditFault) → Begins old begun first → made.history.history ≡ begun.history.history
     → MakesEditIn is_session begun first edit answer made last → Ends made last done → MakesEdit is_session old edit answer done
 edited {B} {S} is_session old begun made done first last edit answer begins kept (inl makes) ends =
@@ -124,13 +124,13 @@ edited is_session old begun made done first last edit answer begins kept (inr no
         keeps = keeps-rest old begun done begins.keeps (keeps-rest begun made done none.1.keeps ends.keeps);
         history =
             subst (λ (it : UndoRedo). IsAsBefore old.history it)
-            (sym (ends.nothing (ap (λ (step : Step). step.changes.items) none.2 ∙ begins.empty)))
+            (sym (ends.nothing (ap (λ (step : OpenStep). step.changes.items) none.2 ∙ begins.empty)))
             (as-before old.history begun.history made.history begins.history none.1.history);
       },
     )
 
 -- an edit of a step that is under way, made where the room alone is different
-pub edited-in : {B S : Type 0} (is_session : B → Machine → Type 0) (old between new : Server B S) (begun step : Step) (edit : Edit)
+pub edited-in : {B S : Type 0} (is_session : B → Machine → Type 0) (old between new : Server B S) (begun step : OpenStep) (edit : Edit)
     (answer : Result Receipt EditFault) → KeepsRest old between → IsAsBefore old.history between.history
     → MakesEditIn is_session between begun edit answer new step → MakesEditIn is_session old begun edit answer new step
 edited-in {B} is_session old between new begun step edit answer keeps same (inl makes) =
@@ -151,7 +151,7 @@ edited-in {B} is_session old between new begun step edit answer keeps same (inl 
       makes.2 ∙ keeps.source,
     )
   where
-    goes-on : {T E : Type 0} (old between new : UndoRedo) (begun step : Step) (answer : Result T E) (before after : Register)
+    goes-on : {T E : Type 0} (old between new : UndoRedo) (begun step : OpenStep) (answer : Result T E) (before after : Register)
         → IsAsBefore old between → GoesOnIf between begun before answer new step after → GoesOnIf old begun before answer new step after
     goes-on old between new begun step (Ok receipt) before after same goes =
         λ states first way. goes states first (under-way-same old between begun states first before same way)
@@ -167,7 +167,7 @@ edited-in is_session old between new begun step edit answer keeps same (inr none
     )
 
 -- a refused edit leaves a step that is under way
-pub refused-in : {B S : Type 0} (is_session : B → Machine → Type 0) (old new : Server B S) (begun : Step) (edit : Edit) (refused : EditFault)
+pub refused-in : {B S : Type 0} (is_session : B → Machine → Type 0) (old new : Server B S) (begun : OpenStep) (edit : Edit) (refused : EditFault)
     → Steps (is_session old.backend) (λ before after. MakesOne before edit (Err refused) after) (is_session new.backend)
     → new.sums ≡ old.sums → new.source ≡ old.source → new.history ≡ old.history
     → MakesEditIn is_session old begun edit (Err refused) new begun
@@ -184,7 +184,7 @@ refused-in is_session old new begun edit refused steps sums source history =
     )
 
 -- an accepted one goes on with it
-pub accepted-in : {B S : Type 0} (is_session : B → Machine → Type 0) (old new : Server B S) (begun step : Step) (edit : Edit) (receipt : Receipt)
+pub accepted-in : {B S : Type 0} (is_session : B → Machine → Type 0) (old new : Server B S) (begun step : OpenStep) (edit : Edit) (receipt : Receipt)
     → Steps (is_session old.backend) (λ before after. MakesOne before edit (Ok receipt) after) (is_session new.backend)
     → new.sums ≡ with_edit old.sums receipt.steps (bytes_of_edit edit) → new.source ≡ old.source
     → ((before : Register) (id : ℕ) (after : Register) → Makes before edit id after → (states : List Texts) (first : Texts)

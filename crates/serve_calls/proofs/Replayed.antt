@@ -1,4 +1,4 @@
--- Recorded edits that are made again.
+-- RecordedStep edits that are made again.
 use Rattle.std.proofs.Common.{◌≡◌, ◌≢◌, List, [], ◌∷◌, ◌++◌, Result, Ok, Err, IfOk, IsOk, OnOk, ap, arith, inl, inr, length, refl, rules}
 use Rattle.stand_in_session.specs.Machines.{Machine}
 use Rattle.stream_edits.specs.declared.edits.Edit.{Edit}
@@ -12,8 +12,8 @@ use Rattle.serve_calls.specs.declared.replaying.Unreplayed.{Unreplayed}
 use Rattle.serve_calls.specs.declared.replaying.Unreplayed.TheVariants as unreplayed
 use Rattle.serve_calls.specs.declared.journaled.Journaled.{Journaled}
 use Rattle.serve_calls.specs.declared.server.Server.{Server}
-use Rattle.session_journal.specs.declared.steps.step.Step.{Step as Recorded}
-use Rattle.session_journal.specs.declared.steps.step.Step.TheVariants.{Edits, Load, Snapshot}
+use Rattle.session_journal.specs.declared.steps.step.RecordedStep.{RecordedStep}
+use Rattle.session_journal.specs.declared.steps.step.RecordedStep.TheVariants.{Edits, Load, Snapshot}
 use Rattle.session_journal.specs.SessionJournalKept.{with_left}
 use Rattle.serve_calls.specs.Resuming.{ReplaysOnto, ReplaysSteps}
 use Rattle.serve_calls.specs.declared.unmade.EditFault.{EditFault}
@@ -36,19 +36,19 @@ group-replayed is_session old new edits (Err fault) (Ok it) ok makes = search ru
 group-replayed is_session old new edits (Err fault) (Err why) ok makes = tt {0}
 
 -- a last step of which nothing is made is not among those that are left
-pub left-none : (steps : List Recorded) (step : Recorded) → with_left steps step 0 ≡ steps
+pub left-none : (steps : List RecordedStep) (step : RecordedStep) → with_left steps step 0 ≡ steps
 left-none steps (Edits edits) = refl
 left-none steps (Load edits) = refl
 left-none steps (Snapshot snapshot) = refl
 
 -- no steps are an empty list of them
-pub nothing-left : (steps : List Recorded) → length steps ≡ 0 → steps ≡ []
+pub nothing-left : (steps : List RecordedStep) → length steps ≡ 0 → steps ≡ []
 nothing-left [] none = refl
 nothing-left (step ∷ steps) none = absurd (omega (arith, none))
 
 -- steps and a last one behind them are made again, where they were recorded so
-pub steps-onto : {B K S : Type 0} (is_session : B → Machine → Type 0) (stands : K → List Recorded → Type 0)
-    (ends : K → List Recorded → Recorded → Type 0) (old new : Server (Journaled B K) S) (journal : K) (steps front : List Recorded) (last : Recorded)
+pub steps-onto : {B K S : Type 0} (is_session : B → Machine → Type 0) (stands : K → List RecordedStep → Type 0)
+    (ends : K → List RecordedStep → RecordedStep → Type 0) (old new : Server (Journaled B K) S) (journal : K) (steps front : List RecordedStep) (last : RecordedStep)
     (result : Result K Unreplayed) → steps ≡ front ++ last ∷ []
     → IfOk result (λ kept. ReplaysOnto is_session stands ends old journal front last kept new)
     → IfOk result (λ kept. ReplaysSteps is_session stands ends old journal steps kept new)

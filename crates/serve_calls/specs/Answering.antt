@@ -12,10 +12,10 @@ use Rattle.stream_session.specs.Streams.{outcome_in, position_in}
 use Rattle.serve_requests.specs.declared.failure.Failure.{Failure}
 use Rattle.serve_answers.specs.declared.answer.Answer.{Answer}
 use Rattle.serve_answers.specs.declared.answer.Answer.TheVariants as answer
-use Rattle.serve_answers.specs.declared.answer.Found.{Found}
+use Rattle.serve_answers.specs.declared.answer.FoundUnit.{FoundUnit}
 use Rattle.serve_answers.specs.declared.answer.Stats.{Stats}
 use Rattle.serve_answers.specs.Introductions.{introduction}
-use Rattle.serve_answers.specs.declared.unit_answers.Told.{Told}
+use Rattle.serve_answers.specs.declared.unit_answers.UnitFlags.{UnitFlags}
 use Rattle.serve_answers.specs.declared.unit_answers.UnitAnswer.{UnitAnswer}
 use Rattle.serve_answers.specs.Replies.{show_answer}
 use Rattle.serve_answers.specs.UnitAnswers.{unit_answer}
@@ -30,26 +30,26 @@ ids_in stream from count = take count (drop from (ids_of stream))
 
 -- the outcome of the unit of the id as a result, with what is told of it, and with its controls or
 -- without, if there is such a unit
-abbrev pub unit_in : Stream → Bool → ℕ × Told → Option UnitAnswer
+abbrev pub unit_in : Stream → Bool → ℕ × UnitFlags → Option UnitAnswer
 unit_in stream controls it =
     option_and_then (λ outcome. option_map (λ position. unit_answer it.0 position outcome it.1 controls) (position_in stream it.0))
     (outcome_in stream it.0)
 
 -- what is told of the unit of an id, at a place, is so
-pub record IsToldAt (machine : Machine) (at id : ℕ) (told : Told) : Type 0 where
+pub record IsToldAt (machine : Machine) (at id : ℕ) (told : UnitFlags) : Type 0 where
   pub doubt : IsDoubt (seen_in machine.register.stream) at told.doubt
   pub altered : IsTrue told.altered ↔ IsAltered machine id
 
 -- what is told of so many of these units, which stand from a place on, is so
-pub record AreToldFrom (machine : Machine) (from count : ℕ) (ids : List ℕ) (told : List Told) : Type 0 where
+pub record AreToldFrom (machine : Machine) (from count : ℕ) (ids : List ℕ) (told : List UnitFlags) : Type 0 where
   pub long : length told ≡ count
-  pub each : (k : ℕ) (unknown : Told) → k < count
+  pub each : (k : ℕ) (unknown : UnitFlags) → k < count
       → IsToldAt machine (from + k) (slice_index_or ids k 0) (slice_index_or told k unknown)
 
 -- the outcomes of so many units from a place on, each with the break that it follows, whether it is in
 -- doubt and whether it is altered
 pub record AreUnitsIn (machine : Machine) (from count : ℕ) (controls : Bool) (answers : List UnitAnswer) : Type 0 where
-  pub told : List Told
+  pub told : List UnitFlags
   pub are_told : AreToldFrom machine from (length (ids_in machine.register.stream from count))
       (ids_in machine.register.stream from count) told
   pub are : answers ≡ filter_map (unit_in machine.register.stream controls) (zip (ids_in machine.register.stream from count) told)
@@ -64,12 +64,12 @@ IsNoneAmong stream position from to =
     (at id : ℕ) → from ≤ at → at < to → slice_get (ids_of stream) at ≡ Some id → HasPosition stream position id → ⊥
 
 -- this unit stands at its place and has the position
-abbrev pub IsAt : Stream → ℕ → Found → Type 0
+abbrev pub IsAt : Stream → ℕ → FoundUnit → Type 0
 IsAt stream position found =
     (slice_get (ids_of stream) found.place ≡ Some found.id) × HasPosition stream position found.id
 
 -- the unit that has the position, or that none has it
-abbrev pub IsFound : Stream → ℕ → Option Found → Type 0
+abbrev pub IsFound : Stream → ℕ → Option FoundUnit → Type 0
 IsFound stream position (Some found) = IsAt stream position found
 IsFound stream position None = IsNoneAmong stream position 0 (length stream)
 
@@ -98,8 +98,8 @@ TellsUnits is_session from count controls result =
 -- the result of a question for the unit at a position
 abbrev pub TellsFound : (Machine → Type 0) → ℕ → Result Answer Failure → Type 0
 TellsFound is_session position result =
-    (found : Option Found) × Asks is_session (λ machine. IsFound machine.register.stream position found)
-    × (result ≡ Ok (answer.Found found))
+    (found : Option FoundUnit) × Asks is_session (λ machine. IsFound machine.register.stream position found)
+    × (result ≡ Ok (answer.FoundUnit found))
 
 -- the result of a question for what is shown of the unit of a number
 abbrev pub TellsShown : (Machine → Type 0) → ℕ → Result Answer Failure → Type 0

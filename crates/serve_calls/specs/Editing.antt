@@ -13,7 +13,7 @@ use Rattle.stream_edits.specs.GroupRefusals.{IsGroupRefused}
 use Rattle.stream_edits.specs.Groups.{most_edits}
 use Rattle.stream_edits.specs.Refusals.{IsRefused}
 use Rattle.edit_script.specs.Words.{id_of}
-use Rattle.stand_in_session.specs.declared.dropping.Dropping.{Dropping}
+use Rattle.stand_in_session.specs.declared.jobs.Dropping.{Dropping}
 use Rattle.stand_in_session.specs.Machines.{Machine}
 use Rattle.stand_in_session.specs.Needing.{AnswersDrop}
 use Rattle.serve_requests.specs.declared.failure.Failure.{Failure}
@@ -23,7 +23,7 @@ use Rattle.serve_answers.specs.declared.words.Word.TheVariants as word
 use Rattle.serve_answers.specs.Replies.{drop_answer, edit_answer, group_answer}
 use Rattle.serve_calls.specs.declared.server.Server.{Server}
 use Rattle.serve_calls.specs.declared.sums.Sums.{Sums}
-use Rattle.edit_history.specs.declared.undo_redo.prepared.Step.{Step}
+use Rattle.edit_history.specs.declared.undo_redo.prepared.OpenStep.{OpenStep}
 use Rattle.edit_history.specs.declared.undo_redo.undo_redo.UndoRedo.{UndoRedo}
 use Rattle.serve_calls.specs.Remembering.{GoesOnIf, Remembers, Rests}
 use Rattle.serve_calls.specs.Failing.{out_of_memory}
@@ -60,15 +60,15 @@ MakesEdit is_session old edit answer new =
     ⊎ ((answer ≡ Err (edit_fault.Refused refusals.Memory)) × Rests old new)
 
 -- the session answers an edit of a step that is under way so, or it isn't recorded
-pub record StepsEditIn (old : UndoRedo) (begun : Step) (before : Machine) (edit : Edit) (answer : Result Receipt EditFault)
-    (new : UndoRedo) (step : Step) (after : Machine) : Type 0 where
+pub record StepsEditIn (old : UndoRedo) (begun : OpenStep) (before : Machine) (edit : Edit) (answer : Result Receipt EditFault)
+    (new : UndoRedo) (step : OpenStep) (after : Machine) : Type 0 where
   pub answers : MakesOne before edit answer after
   pub goes_on : GoesOnIf old begun before.register answer new step after.register
 
 -- the session answers an edit of a step that is under way so, and an accepted one is added to the sums; or memory ran out
 -- before it was asked
-abbrev pub MakesEditIn : {B S : Type 0} → (B → Machine → Type 0) → Server B S → Step → Edit → Result Receipt EditFault
-    → Server B S → Step → Type 0
+abbrev pub MakesEditIn : {B S : Type 0} → (B → Machine → Type 0) → Server B S → OpenStep → Edit → Result Receipt EditFault
+    → Server B S → OpenStep → Type 0
 MakesEditIn is_session old begun edit answer new step =
     (Steps (is_session old.backend) (λ before after. StepsEditIn old.history begun before edit answer new.history step after)
     (is_session new.backend) × (new.sums ≡ sums_after_edit old.sums edit answer) × (new.source ≡ old.source))

@@ -3,16 +3,16 @@ use Rattle.std.specs.Prelude.{◌≡◌, ◌⊎◌, ℕ, Option, None, Some, Res
 use Rattle.stand_in_device.specs.Inputs.{InputValue}
 use Rattle.picture_store.specs.declared.answers.Landing.{Landing}
 use Rattle.picture_store.specs.declared.answers.Returning.{Returning}
-use Rattle.picture_store.specs.declared.refusals.TakeRefused.{TakeRefused}
-use Rattle.picture_store.specs.declared.refusals.TakeRefused.TheVariants.{JobsSpent}
-use Rattle.stand_in_session.specs.declared.refusals.NotOut.{NotOut}
+use Rattle.picture_store.specs.declared.answers.TakeRefused.{TakeRefused}
+use Rattle.picture_store.specs.declared.answers.TakeRefused.TheVariants.{JobsSpent}
+use Rattle.stand_in_session.specs.declared.replies.NotOut.{NotOut}
 use Rattle.stand_in_session.specs.declared.replies.TakenJob.{TakenJob}
 use Rattle.stand_in_session.specs.Machines.{Machine}
 use Rattle.stand_in_session.specs.Runs.{TakesJob, TakesJobFor, LandsJob, GivesJobBack}
 use Rattle.stream_session.specs.Taken.{input_of}
 use Rattle.serve_requests.specs.declared.failure.Failure.{Failure}
 use Rattle.serve_requests.specs.declared.failure.Failure.TheVariants.{Refused}
-use Rattle.serve_requests.specs.declared.failure.Refusal.TheVariants as refusal
+use Rattle.serve_requests.specs.declared.failure.CallRefusal.TheVariants as refusal
 use Rattle.serve_answers.specs.declared.answer.Answer.{Answer}
 use Rattle.serve_answers.specs.declared.answer.Answer.TheVariants.{Job}
 use Rattle.serve_answers.specs.JobAnswers.{job_answer}

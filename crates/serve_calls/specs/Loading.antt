@@ -1,8 +1,8 @@
 -- A stream whose access units a server inserts one after the other, and the result.
 use Rattle.std.specs.Prelude.{◌≡◌, ◌⊎◌, ◌-◌, ◌≤◌, ℕ, Bool, List, [], ◌∷◌, length, Option, None, Some, IfSome, Result, Ok, Err}
 use Rattle.annexb.specs.ByteStream.{joined}
-use Rattle.access_unit.specs.declared.room.Refusal.{Refusal as StreamRefusal}
-use Rattle.access_unit.specs.Rooms.{IsStream, IsStreamRefused, most_units}
+use Rattle.access_unit.specs.declared.stream_units.Refusal.{Refusal as StreamRefusal}
+use Rattle.access_unit.specs.StreamUnits.{IsStream, IsStreamRefused, most_units}
 use Rattle.stream_edits.specs.declared.edits.Edit.TheVariants.{Insert}
 use Rattle.stream_edits.specs.declared.receipts.Last.{Last}
 use Rattle.stream_edits.specs.declared.receipts.Receipt.{Receipt}
@@ -13,14 +13,14 @@ use Rattle.serve_requests.specs.declared.call.Loaded.{Loaded}
 use Rattle.serve_requests.specs.declared.call.Loaded.TheVariants as loaded
 use Rattle.serve_requests.specs.declared.failure.Failure.{Failure}
 use Rattle.serve_requests.specs.declared.failure.Failure.TheVariants.{Refused}
-use Rattle.serve_requests.specs.declared.failure.Refusal.TheVariants as refusal
+use Rattle.serve_requests.specs.declared.failure.CallRefusal.TheVariants as refusal
 use Rattle.serve_answers.specs.declared.answer.Answer.{Answer}
 use Rattle.serve_answers.specs.declared.answer.Answer.TheVariants as answer
 use Rattle.serve_answers.specs.declared.left_out_answers.LeftOutAnswer.{LeftOutAnswer}
 use Rattle.serve_calls.specs.declared.loading.Inserted.{Inserted}
 use Rattle.serve_calls.specs.declared.preparing.Prepared.{Prepared}
 use Rattle.serve_calls.specs.declared.server.Server.{Server}
-use Rattle.edit_history.specs.declared.undo_redo.prepared.Step.{Step}
+use Rattle.edit_history.specs.declared.undo_redo.prepared.OpenStep.{OpenStep}
 use Rattle.serve_calls.specs.Editing.{MakesEditIn}
 use Rattle.session_journal.specs.declared.unkept.Unkept.{Unkept}
 use Rattle.serve_calls.specs.declared.unmade.EditFault.{EditFault}
@@ -61,8 +61,8 @@ abbrev pub IsLast : {B S : Type 0} → (B → Machine → Type 0) → Server B S
 IsLast is_session server last = Asks (is_session server.backend) (λ machine. last ≡ last_of machine.register.stream)
 
 -- a unit is inserted after the last one, in a step that is under way; or memory ran out before the session was asked
-abbrev pub InsertsLast : {B S : Type 0} → (B → Machine → Type 0) → Server B S → Step → List (List ℕ)
-    → Result Receipt EditFault → Server B S → Step → Type 0
+abbrev pub InsertsLast : {B S : Type 0} → (B → Machine → Type 0) → Server B S → OpenStep → List (List ℕ)
+    → Result Receipt EditFault → Server B S → OpenStep → Type 0
 InsertsLast is_session old begun unit answer new step =
     ((last : Last) × IsLast is_session old last
     × MakesEditIn is_session old begun (Insert (place_after last.id) (joined unit)) answer new step)
@@ -75,21 +75,21 @@ uninserted (edit_fault.Unkept why) units = unkept_failure why
 
 -- the units are inserted one after the other in a step that is under way, to the end or to the first that is refused; those
 -- before it stay
-abbrev pub InsertsAll : {B S : Type 0} → (B → Machine → Type 0) → Server B S → Step → List (List (List ℕ)) → Inserted
-    → Result Inserted Failure → Server B S → Step → Type 0
+abbrev pub InsertsAll : {B S : Type 0} → (B → Machine → Type 0) → Server B S → OpenStep → List (List (List ℕ)) → Inserted
+    → Result Inserted Failure → Server B S → OpenStep → Type 0
 InsertsAll is_session old begun [] inserted result new step = (result ≡ Ok inserted) × (new ≡ old) × (step ≡ begun)
 InsertsAll {B} {S} is_session old begun (unit ∷ units) inserted result new step =
-    ((receipt : Receipt) × (next : Server B S) × (more : Step) × InsertsLast is_session old begun unit (Ok receipt) next more
+    ((receipt : Receipt) × (next : Server B S) × (more : OpenStep) × InsertsLast is_session old begun unit (Ok receipt) next more
     × InsertsAll is_session next more units (with_unit inserted receipt.id) result new step)
     ⊎ ((fault : EditFault) × InsertsLast is_session old begun unit (Err fault) new step
     × (result ≡ Err (uninserted fault inserted.units)))
 
 -- the units are inserted as the step that has begun, with those that were inserted; or they aren't recorded, and nothing
 -- is different
-abbrev pub InsertsBegun : {B S : Type 0} → (B → Machine → Type 0) → Server B S → Step → List (List (List ℕ)) → Inserted
+abbrev pub InsertsBegun : {B S : Type 0} → (B → Machine → Type 0) → Server B S → OpenStep → List (List (List ℕ)) → Inserted
     → Result Inserted Failure → Server B S → Type 0
 InsertsBegun {B} {S} is_session old step units inserted result new =
-    ((begun done ended : Server B S) × (last : Step) × KeepsSession is_session old begun
+    ((begun done ended : Server B S) × (last : OpenStep) × KeepsSession is_session old begun
     × InsertsAll is_session begun step units inserted result done last × KeepsSession is_session done ended × Ends ended last new)
     ⊎ ((why : Unkept) × (result ≡ Err (unkept_failure why)) × KeepsSession is_session old new)
 
@@ -97,7 +97,7 @@ InsertsBegun {B} {S} is_session old step units inserted result new =
 abbrev pub InsertsStep : {B S : Type 0} → (B → Machine → Type 0) → Server B S → List (List (List ℕ)) → Inserted
     → Result Inserted Failure → Server B S → Type 0
 InsertsStep {B} {S} is_session old units inserted result new =
-    ((begun : Server B S) × (first : Step) × Begins old begun first × InsertsBegun is_session begun first units inserted result new)
+    ((begun : Server B S) × (first : OpenStep) × Begins old begun first × InsertsBegun is_session begun first units inserted result new)
     ⊎ ((result ≡ Err out_of_memory) × Rests old new)
 
 -- the text that is loaded: the bytes that are given, or those of the file where they are known
@@ -117,19 +117,19 @@ KeepsAll file old new =
     × ((name : List ℕ) → file new.source name ≡ file old.source name)
 
 -- so many units the session's stream has, and for so many it has room
-abbrev pub HasRoom : {B S : Type 0} → (B → Machine → Type 0) → Server B S → ℕ → ℕ → Type 0
-HasRoom is_session server from room =
-    (last : Last) × IsLast is_session server last × (from ≡ last.units) × (room ≡ most_units - from)
+abbrev pub HasCapacity : {B S : Type 0} → (B → Machine → Type 0) → Server B S → ℕ → ℕ → Type 0
+HasCapacity is_session server from capacity =
+    (last : Last) × IsLast is_session server last × (from ≡ last.units) × (capacity ≡ most_units - from)
 
 -- the result of a stream that is loaded: its units are inserted behind those that are there; or it is
 -- refused, and nothing changes; or memory ran out
 abbrev pub LoadsStream : {B S : Type 0} → (B → Machine → Type 0) → Server B S → Prepared → Result Answer Failure → Server B S → Type 0
 LoadsStream is_session old stream result new =
-    ((from room : ℕ) × (units : List (List (List ℕ))) × (inserted : Result Inserted Failure) × HasRoom is_session old from room
-    × IsStream stream.text units × (length units ≤ room) × InsertsStep is_session old units (none_inserted from) inserted new
+    ((from capacity : ℕ) × (units : List (List (List ℕ))) × (inserted : Result Inserted Failure) × HasCapacity is_session old from capacity
+    × IsStream stream.text units × (length units ≤ capacity) × InsertsStep is_session old units (none_inserted from) inserted new
     × (result ≡ load_answer stream.left_out inserted))
-    ⊎ ((from room : ℕ) × (refused : StreamRefusal) × HasRoom is_session old from room
-    × IsStreamRefused stream.text room refused × (result ≡ Err (Refused (refusal.Stream refused))) × (new ≡ old))
+    ⊎ ((from capacity : ℕ) × (refused : StreamRefusal) × HasCapacity is_session old from capacity
+    × IsStreamRefused stream.text capacity refused × (result ≡ Err (Refused (refusal.Stream refused))) × (new ≡ old))
     ⊎ ((result ≡ Err out_of_memory) × (new ≡ old))
 
 -- the result of a load: that of its text, as it came or mended; or why there is none, and nothing changes

@@ -2,7 +2,7 @@
 use Rattle.std.specs.Prelude.{◌≡◌, ◌+◌, ◌<◌, List, [], ◌∷◌, ◌++◌, length, take, Result, Ok, Err}
 use Rattle.edit_history.specs.Texts.{Texts}
 use Rattle.stream_edits.specs.Edits.{Register}
-use Rattle.edit_history.specs.declared.undo_redo.prepared.Step.{Step}
+use Rattle.edit_history.specs.declared.undo_redo.prepared.OpenStep.{OpenStep}
 use Rattle.edit_history.specs.declared.undo_redo.undo_redo.UndoRedo.{UndoRedo}
 use Rattle.edit_history.specs.States.{IsAsBefore, IsUnderWay, IsUndoRedo}
 use Rattle.stand_in_session.specs.Machines.{Machine}
@@ -21,13 +21,13 @@ Remembers old before (Ok receipt) new after = (states : List Texts) → IsUndoRe
 Remembers old before (Err refused) new after = IsAsBefore old new
 
 -- a step that is under way has one change more
-pub record GoesOn (begun : Step) (new : UndoRedo) (step : Step) (after : Register) (states : List Texts) (first : Texts) : Type 0 where
+pub record GoesOn (begun : OpenStep) (new : UndoRedo) (step : OpenStep) (after : Register) (states : List Texts) (first : Texts) : Type 0 where
   pub is : IsUnderWay new step states first after
   pub more : length step.changes.items ≡ length begun.changes.items + 1
 
 -- after an answer to an edit of a step that is under way: it goes on, if the edit is accepted; else nothing is different but
 -- the room that there is
-abbrev pub GoesOnIf : {T E : Type 0} → UndoRedo → Step → Register → Result T E → UndoRedo → Step → Register → Type 0
+abbrev pub GoesOnIf : {T E : Type 0} → UndoRedo → OpenStep → Register → Result T E → UndoRedo → OpenStep → Register → Type 0
 GoesOnIf old begun before (Ok receipt) new step after =
     (states : List Texts) (first : Texts) → IsUnderWay old begun states first before → GoesOn begun new step after states first
 GoesOnIf old begun before (Err refused) new step after = IsAsBefore old new × (step ≡ begun)
@@ -50,7 +50,7 @@ pub record Rests {B S : Type 0} (old new : Server B S) : Type 0 where
   pub history : IsAsBefore old.history new.history
 
 -- a step begins, before its first change
-pub record Begins {B S : Type 0} (old new : Server B S) (step : Step) : Type 0 where
+pub record Begins {B S : Type 0} (old new : Server B S) (step : OpenStep) : Type 0 where
   pub keeps : KeepsRest old new
   pub history : IsAsBefore old.history new.history
   pub empty : step.changes.items ≡ []
@@ -58,7 +58,7 @@ pub record Begins {B S : Type 0} (old new : Server B S) (step : Step) : Type 0 w
       → IsUnderWay new.history step states old.history.units.texts.items register
 
 -- a step ends: it can be undone, unless it has no change, and then nothing can be redone
-pub record Ends {B S : Type 0} (old : Server B S) (step : Step) (new : Server B S) : Type 0 where
+pub record Ends {B S : Type 0} (old : Server B S) (step : OpenStep) (new : Server B S) : Type 0 where
   pub keeps : KeepsRest old new
   pub adds : 0 < length step.changes.items → (states : List Texts) (first : Texts) (register : Register)
       → IsUnderWay old.history step states first register

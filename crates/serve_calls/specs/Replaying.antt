@@ -1,4 +1,4 @@
--- Recorded steps that a server makes again.
+-- RecordedStep steps that a server makes again.
 use Rattle.std.specs.Prelude.{◌≡◌, ◌≢◌, ◌⊎◌, ℕ, List, [], ◌∷◌, map, Ok, Err}
 use Rattle.stream_edits.specs.declared.edits.Edit.{Edit}
 use Rattle.stream_edits.specs.declared.group_refused.GroupRefused.{GroupRefused}
@@ -11,11 +11,11 @@ use Rattle.stream_edits.specs.Edits.{Register}
 use Rattle.stream_edits.specs.GroupRefusals.{IsGroupRefused}
 use Rattle.stream_edits.specs.Refusals.{IsRefused}
 use Rattle.stand_in_session.specs.Machines.{Machine}
-use Rattle.session_journal.specs.declared.steps.step.Step.{Step as Recorded}
-use Rattle.session_journal.specs.declared.steps.step.Step.TheVariants.{Edits, Load, Snapshot}
+use Rattle.session_journal.specs.declared.steps.step.RecordedStep.{RecordedStep}
+use Rattle.session_journal.specs.declared.steps.step.RecordedStep.TheVariants.{Edits, Load, Snapshot}
 use Rattle.stream_session.specs.Machines.{IsBegun}
 use Rattle.stream_edits.specs.Snapshots.{IsOf, SnapshotValue}
-use Rattle.edit_history.specs.declared.undo_redo.prepared.Step.{Step}
+use Rattle.edit_history.specs.declared.undo_redo.prepared.OpenStep.{OpenStep}
 use Rattle.edit_history.specs.States.{IsUndoRedo}
 use Rattle.serve_calls.specs.declared.server.Server.{Server}
 use Rattle.serve_calls.specs.declared.unmade.EditFault.TheVariants as edit_fault
@@ -25,14 +25,14 @@ use Rattle.serve_calls.specs.Remembering.{Begins, Ends}
 
 module _ {B S : Type 0} (is_session : B → Machine → Type 0) where
   -- a recorded edit is made again in a step that is under way
-  abbrev pub MakesOneIn : Server B S → Step → Edit → Server B S → Step → Type 0
+  abbrev pub MakesOneIn : Server B S → OpenStep → Edit → Server B S → OpenStep → Type 0
   MakesOneIn old begun edit new step = (receipt : Receipt) × MakesEditIn is_session old begun edit (Ok receipt) new step
 
   -- recorded edits are made again, each by itself, in a step that is under way
-  abbrev pub MakesEach : Server B S → Step → List Edit → Server B S → Step → Type 0
+  abbrev pub MakesEach : Server B S → OpenStep → List Edit → Server B S → OpenStep → Type 0
   MakesEach old begun [] new step = (new ≡ old) × (step ≡ begun)
   MakesEach old begun (edit ∷ edits) new step =
-      (next : Server B S) × (more : Step) × MakesOneIn old begun edit next more × MakesEach next more edits new step
+      (next : Server B S) × (more : OpenStep) × MakesOneIn old begun edit next more × MakesEach next more edits new step
 
   -- recorded edits are made again, together or a single one by itself
   abbrev pub ReplaysEdits : Server B S → List Edit → Server B S → Type 0
@@ -64,29 +64,29 @@ module _ {B S : Type 0} (is_session : B → Machine → Type 0) where
   pub record BeginsFrom (old : Server B S) (snapshot : SnapshotValue) (new : Server B S) : Type 0 where
     pub register : Register
     pub is_of : IsOf snapshot register
-    pub room : ℕ
+    pub capacity : ℕ
     pub session : Machine
-    pub begun : IsBegun room register session
+    pub begun : IsBegun capacity register session
     pub is : is_session new.backend session
     pub history : IsUndoRedo new.history (map (λ unit. unit.1) snapshot.units ∷ []) register
     pub sums : new.sums ≡ old.sums
     pub source : new.source ≡ old.source
 
   -- a recorded step is made again
-  abbrev pub ReplaysOne : Server B S → Recorded → Server B S → Type 0
+  abbrev pub ReplaysOne : Server B S → RecordedStep → Server B S → Type 0
   ReplaysOne old (Edits edits) new = ReplaysEdits old edits new
   ReplaysOne old (Load edits) new =
-      (begun done : Server B S) × (first last : Step) × Begins old begun first × MakesEach begun first edits done last
+      (begun done : Server B S) × (first last : OpenStep) × Begins old begun first × MakesEach begun first edits done last
       × Ends done last new
   ReplaysOne old (Snapshot snapshot) new = BeginsFrom old snapshot new
 
   -- a recorded step is refused, and nothing is made of it
-  abbrev pub RefusesOne : Server B S → Recorded → Server B S → Type 0
+  abbrev pub RefusesOne : Server B S → RecordedStep → Server B S → Type 0
   RefusesOne old (Edits edits) new = RefusesEdits old edits new
   RefusesOne old (Load edits) new = ⊥
   RefusesOne old (Snapshot snapshot) new = ⊥
 
   -- recorded steps are made again, one after the other
-  abbrev pub ReplaysAll : Server B S → List Recorded → Server B S → Type 0
+  abbrev pub ReplaysAll : Server B S → List RecordedStep → Server B S → Type 0
   ReplaysAll old [] new = new ≡ old
   ReplaysAll old (step ∷ steps) new = (next : Server B S) × ReplaysOne old step next × ReplaysAll next steps new

@@ -50,7 +50,7 @@ IsServed is lends file old wanted parts served new wants =
 
 -- the parts of a message that is a request
 abbrev pub parts_if : Message → Option Parts
-parts_if (message.Request request) = Some (parts_of request)
+parts_if (message.RpcRequest request) = Some (parts_of request)
 parts_if (message.Other id) = None
 
 -- a message is served as the request that it is; another one is refused

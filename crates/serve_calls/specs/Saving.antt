@@ -1,11 +1,11 @@
 -- The stream that a server saves as a file, and the result.
 use Rattle.std.specs.Prelude.{◌≡◌, ℕ, ◌-◌, ◌^◌, List, length, min, sum_by, Option, Result, Ok, Err}
-use Rattle.console_io.specs.declared.file_saving.unsaved.Unsaved.{Unsaved}
-use Rattle.console_io.specs.declared.file_saving.unsaved.Unsaved.TheVariants.{Unwritten, Memory}
+use Rattle.console_io.specs.declared.file_saving.folder.Unsaved.{Unsaved}
+use Rattle.console_io.specs.declared.file_saving.folder.Unsaved.TheVariants.{Unwritten, Memory}
 use Rattle.console_io.specs.Saved.{Saves, joined}
 use Rattle.serve_requests.specs.declared.failure.Failure.{Failure}
 use Rattle.serve_requests.specs.declared.failure.Failure.TheVariants.{Refused}
-use Rattle.serve_requests.specs.declared.failure.Refusal.TheVariants as refusal
+use Rattle.serve_requests.specs.declared.failure.CallRefusal.TheVariants as refusal
 use Rattle.serve_answers.specs.declared.answer.Answer.{Answer}
 use Rattle.serve_answers.specs.declared.answer.Answer.TheVariants.{Saved}
 use Rattle.serve_calls.specs.declared.server.Server.{Server}

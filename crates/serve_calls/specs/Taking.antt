@@ -1,14 +1,14 @@
 -- What a runner replies to one who asks for a job.
 use Rattle.std.specs.Prelude.{◌≡◌, ◌⊎◌, ℕ, Option, None, Result, Ok, Err}
-use Rattle.picture_store.specs.declared.refusals.TakeRefused.{TakeRefused}
-use Rattle.picture_store.specs.declared.refusals.TakeRefused.TheVariants.{JobsSpent, Memory}
+use Rattle.picture_store.specs.declared.answers.TakeRefused.{TakeRefused}
+use Rattle.picture_store.specs.declared.answers.TakeRefused.TheVariants.{JobsSpent, Memory}
 use Rattle.stand_in_session.specs.declared.replies.Reply.{Reply}
 use Rattle.stand_in_session.specs.declared.replies.Reply.TheVariants as replies
 use Rattle.stand_in_session.specs.declared.replies.TakenJob.{TakenJob}
 use Rattle.stand_in_session.specs.Machines.{Machine}
 use Rattle.serve_requests.specs.declared.failure.Failure.{Failure}
 use Rattle.serve_requests.specs.declared.failure.Failure.TheVariants.{Refused}
-use Rattle.serve_requests.specs.declared.failure.Refusal.TheVariants as refusal
+use Rattle.serve_requests.specs.declared.failure.CallRefusal.TheVariants as refusal
 use Rattle.serve_calls.specs.Failing.{out_of_memory}
 use Rattle.serve_calls.specs.Jobs.{TakesOne}
 

@@ -7,11 +7,11 @@ use Rattle.stand_in_session.specs.Machines.{Machine}
 use Rattle.stream_edits.specs.declared.edits.Edit.{Edit}
 use Rattle.stream_edits.specs.Edits.{Register}
 use Rattle.edit_history.specs.declared.undo_redo.undo_redo.UndoRedo.{UndoRedo}
-use Rattle.edit_history.specs.Kept.{IsKept}
+use Rattle.edit_history.specs.KeptTexts.{IsKept}
 use Rattle.edit_history.specs.Snapshots.{IsTextOf}
 use Rattle.serve_requests.specs.declared.failure.Failure.{Failure}
 use Rattle.serve_requests.specs.declared.failure.Failure.TheVariants.{Refused}
-use Rattle.serve_requests.specs.declared.failure.Refusal.TheVariants as refusal
+use Rattle.serve_requests.specs.declared.failure.CallRefusal.TheVariants as refusal
 use Rattle.serve_answers.specs.JournalAnswers.{entry_answer}
 use Rattle.serve_answers.specs.declared.answer.Answer.{Answer}
 use Rattle.serve_answers.specs.declared.answer.Answer.TheVariants.{Journal, Text}

@@ -10,12 +10,12 @@ use Rattle.stream_edits.specs.declared.receipts.GroupReceipt.{GroupReceipt}
 use Rattle.stream_edits.specs.declared.refusals.EditRefused.TheVariants as refusals
 use Rattle.stream_edits.specs.Edits.{Register}
 use Rattle.stream_edits.specs.GroupRefusals.{IsGroupRefused, IsUntaken}
-use Rattle.access_unit.specs.Rooms.{most_units}
+use Rattle.access_unit.specs.StreamUnits.{most_units}
 use Rattle.stand_in_session.specs.Machines.{Machine}
 use Rattle.serve_requests.specs.declared.failure.Failure.{Failure}
 use Rattle.serve_requests.specs.declared.failure.Failure.TheVariants.{Refused}
-use Rattle.serve_requests.specs.declared.failure.Refusal.{Refusal}
-use Rattle.serve_requests.specs.declared.failure.Refusal.TheVariants as refusal
+use Rattle.serve_requests.specs.declared.failure.CallRefusal.{CallRefusal}
+use Rattle.serve_requests.specs.declared.failure.CallRefusal.TheVariants as refusal
 use Rattle.serve_answers.specs.declared.answer.Answer.{Answer}
 use Rattle.edit_history.specs.declared.undo_redo.undo_redo.UndoRedo.{UndoRedo}
 use Rattle.edit_history.specs.declared.undo_redo.unit_texts.UnitTexts.{UnitTexts}
@@ -28,7 +28,7 @@ use Rattle.serve_calls.specs.declared.unmade.GroupFault.{GroupFault}
 use Rattle.serve_calls.specs.declared.unmade.GroupFault.TheVariants as group_fault
 
 -- why nothing is undone or redone, where nothing is there
-abbrev pub undo_failure : Refusal → NotUndone → Failure
+abbrev pub undo_failure : CallRefusal → NotUndone → Failure
 undo_failure none not_undone.Nothing = Refused none
 undo_failure none not_undone.IdsSpent = Refused (refusal.Edit refusals.IdsSpent)
 undo_failure none not_undone.Unfit = Refused refusal.NoSuchUnit

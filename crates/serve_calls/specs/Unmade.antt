@@ -10,7 +10,7 @@ use Rattle.session_journal.specs.declared.unkept.Unkept.{Unkept}
 use Rattle.session_journal.specs.declared.unkept.Unkept.TheVariants as unkept
 use Rattle.serve_requests.specs.declared.failure.Failure.{Failure}
 use Rattle.serve_requests.specs.declared.failure.Failure.TheVariants as failure
-use Rattle.serve_requests.specs.declared.failure.Refusal.TheVariants as refusal
+use Rattle.serve_requests.specs.declared.failure.CallRefusal.TheVariants as refusal
 use Rattle.serve_answers.specs.declared.answer.Answer.{Answer}
 use Rattle.serve_answers.specs.Replies.{edit_answer, group_answer}
 use Rattle.serve_calls.specs.declared.unmade.EditFault.{EditFault}

@@ -8,13 +8,13 @@ use Rattle.stream_session.specs.declared.showing.Shown.TheVariants as shown
 use Rattle.stand_in_session.specs.Machines.{Machine}
 use Rattle.serve_requests.specs.declared.failure.Failure.{Failure}
 use Rattle.serve_requests.specs.declared.failure.Failure.TheVariants.{Refused}
-use Rattle.serve_requests.specs.declared.failure.Refusal.TheVariants as refusal
+use Rattle.serve_requests.specs.declared.failure.CallRefusal.TheVariants as refusal
 use Rattle.serve_answers.specs.declared.answer.Answer.{Answer}
 use Rattle.serve_answers.specs.declared.answer.Answer.TheVariants.{Wanted}
 use Rattle.serve_answers.specs.declared.answer.Picked.{Picked}
 use Rattle.serve_calls.specs.declared.server.Server.{Server}
 use Rattle.serve_calls.specs.declared.wanted_units.WantedUnit.{WantedUnit}
-use Rattle.serve_calls.specs.declared.wanting.ToldNow.{ToldNow}
+use Rattle.serve_calls.specs.declared.wanting.WantedNow.{WantedNow}
 use Rattle.serve_calls.specs.Failing.{out_of_memory}
 use Rattle.serve_calls.specs.Sessions.{Asks, Stays}
 use Rattle.serve_calls.specs.WantedUnits.{AreWanted}
@@ -52,13 +52,13 @@ abbrev pub told_of : Seen → WantedUnit
 told_of seen = record { number = seen.0; told = picture_of seen.1; seen = Some seen.1 }
 
 -- this is what is told of these units
-pub record IsTold (seen : List Seen) (told : ToldNow) : Type 0 where
+pub record IsTold (seen : List Seen) (told : WantedNow) : Type 0 where
   pub ready : told.ready.items ≡ filter_map ready_of seen
   pub not_now : told.not_now.items ≡ filter_map not_now_of seen
   pub units : told.units.items ≡ map told_of seen
 
 -- one unit more is told of
-abbrev pub TellsOne : ToldNow → Seen → ToldNow → Type 0
+abbrev pub TellsOne : WantedNow → Seen → WantedNow → Type 0
 TellsOne old it new = (seen : List Seen) → IsTold seen old → IsTold (seen ++ it ∷ []) new
 
 -- this is what the session shows of the units, each after the other
@@ -67,7 +67,7 @@ AreSeen machine units seen =
     (map (λ it. it.0) seen ≡ map (λ unit. unit.number) units) × All (λ it. Shows machine (id_of it.0) it.1) seen
 
 -- this is what the session tells of the units
-pub record TellsOf (machine : Machine) (units : List WantedUnit) (told : ToldNow) : Type 0 where
+pub record TellsOf (machine : Machine) (units : List WantedUnit) (told : WantedNow) : Type 0 where
   pub seen : List Seen
   pub are : AreSeen machine units seen
   pub is_told : IsTold seen told
@@ -81,7 +81,7 @@ wanted_after false units told = units
 -- what the session tells of them
 abbrev pub Wants : {B : Type 0} → (B → Machine → Type 0) → B → List ℕ → Bool → Result Answer Failure → List WantedUnit → B → Type 0
 Wants is_session old ids is_answered result wanted new =
-    (units : List WantedUnit) × (told : ToldNow) × AreWanted ids units
+    (units : List WantedUnit) × (told : WantedNow) × AreWanted ids units
     × Asks (is_session old) (λ machine. TellsOf machine units told) × Stays (is_session old) (is_session new)
     × (result ≡ Ok (Wanted told.ready.items told.not_now.items)) × (wanted ≡ wanted_after is_answered units told.units.items)
 

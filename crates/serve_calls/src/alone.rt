@@ -1,7 +1,7 @@
 //! A session alone, whose jobs are taken and landed by calls.
 
 ghost use Rattle.std.specs.Prelude.{◌≡◌, ◌≤◌, ◌↔◌, Err, IfOk, IfSome, IsErrOf, MatchOption, MatchResult, None, Some, false, true};
-ghost use Rattle.held_pictures.specs.Bounded.{most_room};
+ghost use Rattle.held_pictures.specs.Bounded.{most_capacity};
 ghost use Rattle.stand_in_device.specs.Inputs.{InputValue};
 ghost use Rattle.stream_session.specs.Machines.{IsEmpty, empty};
 ghost use Rattle.stream_session.specs.Taken.{input_of};
@@ -12,12 +12,11 @@ ghost use Rattle.serve_calls.specs.Offering.{offering};
 ghost use Rattle.serve_calls.specs.Taking.{TakesReply, taken_in, taken_of};
 
 use crate::backend::{Backend, LendsSession};
-use crate::failing::OUT_OF_MEMORY;
-use crate::unmade::{EditFault, GroupFault};
+use crate::unmade::{EditFault, GroupFault, OUT_OF_MEMORY};
 use h264_types::pictures::AuId;
 use picture_keys::HashedUnit;
 use serve_answers::{Answer, JobAnswer, of_give_back, of_land};
-use serve_requests::{Failure, Refusal};
+use serve_requests::{CallRefusal, Failure};
 use session_journal::Unkept;
 use stand_in_session::{
     Command, Config, ConfigFault, Dropping, GroupReceipt, ReadEdit, ReadGroup, Receipt, Reply,
@@ -40,7 +39,7 @@ impl Alone {
         ensures ok { IfOk result (λ alone. alone.runner ≡ empty cache) }
         ensures kept { IfOk result (λ alone. alone.cache ≡ cache) }
         ensures cache { IsErrOf result ConfigFault.Cache
-            ↔ ((1 ≤ cache) × (cache ≤ most_room) → ⊥) }
+            ↔ ((1 ≤ cache) × (cache ≤ most_capacity) → ⊥) }
     {
         let runner = Runner::new(alloc, Config { cache })?;
         Ok(Alone { runner, cache })
@@ -57,7 +56,7 @@ impl Alone {
     }
 
     /// The result of a job that was taken. Where there is no memory for it, the job is given back.
-    fn told(&mut self, alloc: Global, taken: TakenJob) -> Result<Answer, Failure>
+    fn job_answer(&mut self, alloc: Global, taken: TakenJob) -> Result<Answer, Failure>
         ensures { TellsJob taken self.old.runner result self.new.runner }
     {
         let number = taken.number;
@@ -108,7 +107,7 @@ fn taken_of(answer: &Result<Option<TakenJob>, TakeRefused>) -> Result<Option<Tak
 {
     match answer {
         Ok(taken) => Ok(*taken),
-        Err(TakeRefused::JobsSpent) => Err(Failure::Refused(Refusal::JobsSpent)),
+        Err(TakeRefused::JobsSpent) => Err(Failure::Refused(CallRefusal::JobsSpent)),
         Err(TakeRefused::Memory) => Err(OUT_OF_MEMORY),
     }
 }
@@ -163,7 +162,7 @@ impl Backend for Alone {
     }
 
     fn fresh(&self, alloc: Global) -> Result<Session, AllocError>
-        ensures room { IfOk result (λ session. session ≡ empty self.now.cache) }
+        ensures capacity { IfOk result (λ session. session ≡ empty self.now.cache) }
         ensures empty { IfOk result IsEmpty }
     {
         match Session::new(alloc, Config { cache: self.cache }) {
@@ -205,7 +204,7 @@ impl Backend for Alone {
     fn take(&mut self, alloc: Global, id: Option<AuId>) -> Result<Answer, Failure> {
         self.runner.session().reached();
         match self.taken(id) {
-            Ok(Some(taken)) => self.told(alloc, taken),
+            Ok(Some(taken)) => self.job_answer(alloc, taken),
             Ok(None) => Ok(Answer::Job(None)),
             Err(failure) => Err(failure),
         }

@@ -4,8 +4,8 @@ ghost use Rattle.std.specs.Prelude.{◌≡◌, ◌∷◌, ◌≤◌, ℕ, List, 
 ghost use Rattle.std.specs.Fn.{FnOnceReturnsAt};
 ghost use Rattle.stand_in_session.specs.Machines.{Machine};
 ghost use Rattle.stream_edits.specs.declared.edits.Edit.{Edit as EditValue};
-ghost use Rattle.session_journal.specs.declared.steps.step.Step.{Step as StepValue};
-ghost use Rattle.session_journal.specs.declared.steps.step.Step.TheVariants.{Edits, Snapshot as SnapshotStep};
+ghost use Rattle.session_journal.specs.declared.steps.step.RecordedStep.{RecordedStep as StepValue};
+ghost use Rattle.session_journal.specs.declared.steps.step.RecordedStep.TheVariants.{Edits, Snapshot as SnapshotStep};
 ghost use Rattle.stream_session.specs.Machines.{IsBegun, IsEmpty};
 ghost use Rattle.stand_in_session.specs.Needing.{AnswersDrop};
 ghost use Rattle.serve_calls.specs.Offering.{Offered};
@@ -101,7 +101,7 @@ pub trait Backend: LendsSession {
 
     /// A session to begin anew with, from a snapshot.
     fn begun(&self, alloc: Global, snapshot: ReadSnapshot) -> Result<Session, AllocError>
-        ensures { IfOk result (λ session. (room : ℕ) × IsBegun room snapshot session) };
+        ensures { IfOk result (λ session. (capacity : ℕ) × IsBegun capacity snapshot session) };
 
     /// Writes the journal's file anew, with the snapshot of the stream as its only record. Without a
     /// journal it does nothing.

@@ -1,7 +1,7 @@
 //! A session whose edits are recorded before they are made.
 
 ghost use Rattle.std.specs.Prelude.{◌≡◌, ◌+◌, ◌-◌, ◌^◌, ◌∷◌, ℕ, [], None, Some, IfOk, IsOk, is_some, min};
-ghost use Rattle.session_journal.specs.declared.steps.step.Step.TheVariants.{Edits};
+ghost use Rattle.session_journal.specs.declared.steps.step.RecordedStep.TheVariants.{Edits};
 ghost use Rattle.stream_edits.specs.Streams.{last_of, place_after};
 ghost use Rattle.serve_calls.specs.Journaled.{IsLoadKeptAt, IsRecorded, IsTakenOff, insertions_from};
 ghost use Rattle.serve_calls.specs.Offering.{offering};
@@ -18,7 +18,7 @@ use session_journal::{Records, Unkept};
 use stand_in_session::{Dropping, GroupReceipt, ReadEdit, ReadGroup, Receipt, Session};
 use std::alloc::{AllocError, Global};
 use stream_edits::snapshots::{ReadSnapshot, Snapshot};
-use stream_edits::{Edit, Place};
+use stream_edits::{Edit, InsertionPoint};
 
 /// A session with a journal, or without one.
 #[derive(Drop)]
@@ -87,7 +87,7 @@ impl<B, K: Records> Journaled<B, K> {
     fn record_load(
         &mut self,
         alloc: Global,
-        place: Place,
+        place: InsertionPoint,
         units: &[HashedUnit],
     ) -> Result<(), Unkept>
         ensures backend { self.new.backend ≡ self.old.backend }
@@ -141,7 +141,7 @@ impl<B, K: Records> Journaled<B, K> {
 
 impl<B: LendsSession, K> Journaled<B, K> {
     /// The end of the stream.
-    fn end(&self) -> Place
+    fn end(&self) -> InsertionPoint
         ensures { Asks (B.is_session self.now.backend)
             (λ machine. result ≡ place_after (last_of machine.register.stream).id) }
     {
@@ -280,7 +280,7 @@ impl<B: Backend, K: Records> Backend for Journaled<B, K> {
 /// ids were given before.
 fn insertions(
     alloc: Global,
-    place: Place,
+    place: InsertionPoint,
     given: u32,
     units: &[HashedUnit],
 ) -> Result<Vec<Edit>, Unkept>
@@ -293,7 +293,7 @@ fn insertions(
         let Some(number) = last.checked_add(1) else {
             return Err(Unkept::Unwritten);
         };
-        next = Place::After(AuId::new(number));
+        next = InsertionPoint::After(AuId::new(number));
         last = number;
     }
     Ok(edits)

@@ -11,8 +11,6 @@
 mod alone;
 mod backend;
 mod calls;
-mod compacting;
-mod failing;
 mod journaled;
 mod lists;
 mod loading;
@@ -32,12 +30,11 @@ mod wanting;
 
 pub use alone::Alone;
 pub use backend::{Backend, LendsSession};
-pub use failing::OUT_OF_MEMORY;
 pub use journaled::Journaled;
 pub use replaying::Unreplayed;
 pub use requests::Served;
 pub use server::Server;
 pub use sums::Sums;
-pub use unmade::{EditFault, GroupFault};
+pub use unmade::{EditFault, GroupFault, OUT_OF_MEMORY};
 pub use wanted_units::WantedUnit;
 pub use wanting::picked;

@@ -3,27 +3,26 @@
 ghost use Rattle.std.specs.Prelude.{◌≡◌, ◌+◌, ◌<◌, ◌≤◌, ℕ, List, [], IfErr, IfOk, MatchResult, vec_len};
 ghost use Rattle.std.specs.Vec.{vec_capacity};
 ghost use Rattle.serve_calls.specs.Failing.{out_of_memory};
-ghost use Rattle.edit_history.specs.Histories.{HasRoom as HasStepRoom};
+ghost use Rattle.edit_history.specs.Histories.{HasCapacity as HasStepCapacity};
 ghost use Rattle.stream_edits.specs.declared.edits.Edit.{Edit as EditValue};
-ghost use Rattle.session_journal.specs.declared.steps.step.Step.{Step as StepValue};
+ghost use Rattle.session_journal.specs.declared.steps.step.RecordedStep.{RecordedStep as StepValue};
 ghost use Rattle.serve_calls.specs.Loading.{InsertsAll, InsertsBegun, InsertsLast, InsertsStep, IsLast, IsTextOf, IsTextless, LoadsAs, LoadsStream, load_answer, loaded_answer, none_inserted, uninserted, with_unit};
 ghost use Rattle.serve_calls.specs.Preparing.{prepared};
 ghost use Rattle.serve_calls.specs.Recording.{AreInserted, CountsOn, RecordsInserted, RecordsStream};
 ghost use Rattle.serve_calls.specs.RecordingCalls.{RecordsLoaded};
 
 use crate::backend::{Backend, LendsSession};
-use crate::failing::OUT_OF_MEMORY;
 use crate::preparing::Prepared;
 use crate::server::Server;
-use crate::unmade::{EditFault, unkept_failure};
+use crate::unmade::{EditFault, OUT_OF_MEMORY, unkept_failure};
 use access_unit::{MOST_UNITS, ReadFault, read_units};
 use bytes::Bytes;
 use console_io::{InputFault, Source};
-use edit_history::undo_redo::Step;
+use edit_history::undo_redo::OpenStep;
 use h264_types::pictures::AuId;
 use picture_keys::{HashedUnit, hash_units};
-use serve_answers::{Answer, LeftOutAnswer, Stretch};
-use serve_requests::{Failure, Listed, Loaded, Refusal};
+use serve_answers::{Answer, LeftOutAnswer, UnitRange};
+use serve_requests::{CallRefusal, Failure, Listed, Loaded};
 use stand_in_session::{Last, ReadEdit, Receipt};
 use std::alloc::Global;
 use std::thread::Threads;
@@ -63,14 +62,14 @@ impl Inserted {
     }
 
     /// The result where all were inserted, with what was left out if the stream was mended.
-    fn told(self, left_out: Option<Listed<LeftOutAnswer>>) -> Answer
+    fn answer(self, left_out: Option<Listed<LeftOutAnswer>>) -> Answer
         ensures { result ≡ loaded_answer left_out self }
     {
         Answer::Loaded {
             units: self.units,
             first: self.first,
             last: self.last,
-            changed: Stretch {
+            changed: UnitRange {
                 from: self.from as u64,
                 count: self.units as u64,
             },
@@ -133,7 +132,7 @@ impl<B: Backend, S: Source> Server<B, S> {
                 Ok(units) => of_load(left_out, self.insert_step(from, units)),
                 Err(_) => Err(OUT_OF_MEMORY),
             },
-            Err(ReadFault::Refused(refusal)) => Err(Failure::Refused(Refusal::Stream(refusal))),
+            Err(ReadFault::Refused(refusal)) => Err(Failure::Refused(CallRefusal::Stream(refusal))),
             Err(ReadFault::Memory) => Err(OUT_OF_MEMORY),
         }
     }
@@ -155,13 +154,13 @@ impl<B: Backend, S: Source> Server<B, S> {
     /// begun, unless they aren't recorded.
     fn insert_begun(
         &mut self,
-        step: Step,
+        step: OpenStep,
         from: usize,
         units: Vec<HashedUnit>,
     ) -> Result<Inserted, Failure>
         requires fits { vec_len units ≤ vec_capacity step.changes }
         requires empty { step.changes.items ≡ [] }
-        requires room { HasStepRoom self.old.history.history }
+        requires capacity { HasStepCapacity self.old.history.history }
         ensures inserts { InsertsBegun B.is_session self.old step units.items
             (none_inserted from) result self.new }
         ensures recorded { RecordsInserted (B.is_session self.old.backend)
@@ -181,7 +180,7 @@ impl<B: Backend, S: Source> Server<B, S> {
     /// way. One that is refused ends that, and those before it stay.
     fn insert_all(
         &mut self,
-        step: &mut Step,
+        step: &mut OpenStep,
         from: usize,
         units: Vec<HashedUnit>,
     ) -> Result<Inserted, Failure>
@@ -205,7 +204,7 @@ impl<B: Backend, S: Source> Server<B, S> {
     }
 
     /// Inserts a unit after the last one, in a step that is under way.
-    fn insert_last(&mut self, step: &mut Step, unit: HashedUnit) -> Result<Receipt, EditFault>
+    fn insert_last(&mut self, step: &mut OpenStep, unit: HashedUnit) -> Result<Receipt, EditFault>
         requires { vec_len step.old.changes < vec_capacity step.old.changes }
         ensures inserts { InsertsLast B.is_session self.old step.old unit result self.new
             step.new }
@@ -232,7 +231,7 @@ fn uninserted(fault: EditFault, units: usize) -> Failure
     ensures { result ≡ uninserted fault units }
 {
     match fault {
-        EditFault::Refused(refused) => Failure::Refused(Refusal::Loading { refused, units }),
+        EditFault::Refused(refused) => Failure::Refused(CallRefusal::Loading { refused, units }),
         EditFault::Unkept(why) => unkept_failure(why),
     }
 }
@@ -245,7 +244,7 @@ fn of_load(
     ensures { result ≡ load_answer left_out inserted }
 {
     match inserted {
-        Ok(inserted) => Ok(inserted.told(left_out)),
+        Ok(inserted) => Ok(inserted.answer(left_out)),
         Err(failure) => Err(failure),
     }
 }
@@ -261,7 +260,7 @@ fn text_of<S: Source>(alloc: Global, source: &mut S, loaded: Loaded) -> Result<B
         Loaded::File(name) => match source.whole_file(alloc, name.as_str()) {
             Ok(text) => bytes_of(text),
             Err(InputFault::Memory) => Err(OUT_OF_MEMORY),
-            Err(InputFault::Unread) => Err(Failure::Refused(Refusal::CannotRead)),
+            Err(InputFault::Unread) => Err(Failure::Refused(CallRefusal::CannotRead)),
         },
     }
 }

@@ -4,7 +4,7 @@ ghost use Rattle.std.specs.Prelude.{◌≡◌, true, IfOk, MatchResult};
 ghost use Rattle.serve_calls.specs.Failing.{out_of_memory};
 ghost use Rattle.serve_calls.specs.Preparing.{prepared};
 
-use crate::failing::OUT_OF_MEMORY;
+use crate::unmade::OUT_OF_MEMORY;
 use bytes::Bytes;
 use serve_answers::{LeftOutAnswer, of_left_out};
 use serve_requests::{Failure, Listed};

@@ -8,13 +8,13 @@ ghost use Rattle.stream_session.specs.Doubting.{seen_in};
 ghost use Rattle.serve_calls.specs.Answering.{AreToldFrom, AreUnitsIn, HasPosition, Introduces, IsAt, IsFound, IsNoneAmong, TellsFound, TellsShown, TellsStats, TellsUnits, stats_of, unit_in};
 
 use crate::backend::Backend;
-use crate::failing::OUT_OF_MEMORY;
 use crate::lists::push_some;
 use crate::server::Server;
 use crate::sums::Sums;
+use crate::unmade::OUT_OF_MEMORY;
 use edit_script::id_of_number;
 use h264_types::pictures::AuId;
-use serve_answers::{Answer, Found, Introduction, Stats, Told, UnitAnswer, of_show};
+use serve_answers::{Answer, FoundUnit, Introduction, Stats, UnitAnswer, UnitFlags, of_show};
 use serve_requests::{Failure, Listed};
 use stand_in_session::{Doubt, NoSuchUnit, Session};
 use std::alloc::{AllocError, Global};
@@ -53,7 +53,7 @@ impl<B: Backend, S> Server<B, S> {
         ensures { TellsFound (B.is_session self.now.backend) position result }
     {
         let found = self.backend.look(|session| found(session, position));
-        Ok(Answer::Found(found))
+        Ok(Answer::FoundUnit(found))
     }
 
     /// What is shown of the unit of a number.
@@ -92,7 +92,7 @@ fn units(
 {
     let (first, ids) = page(session.ids(), from, count);
     let doubts = session.doubts(first, ids.len())?;
-    let told = all_told(alloc, session, ids, &doubts)?;
+    let told = flags_of_all(alloc, session, ids, &doubts)?;
     let answers = answers(alloc, session, ids, told.as_slice(), controls)?;
     Ok(Listed::new(answers))
 }
@@ -111,12 +111,12 @@ fn page(ids: &[AuId], from: u64, count: u64) -> (usize, &[AuId])
 }
 
 /// What is told of the units of these ids beside their outcomes.
-fn all_told(
+fn flags_of_all(
     alloc: Global,
     session: &Session,
     ids: &[AuId],
     doubts: &[Doubt],
-) -> Result<Vec<Told>, AllocError>
+) -> Result<Vec<UnitFlags>, AllocError>
     requires { length doubts.now ≡ length ids.now }
     ensures { IfOk result (λ told. (from : ℕ)
         → AreDoubts (seen_in session.now.register.stream) from (length ids.now) doubts.now
@@ -124,7 +124,7 @@ fn all_told(
 {
     let mut told = Vec::with_capacity(alloc, ids.len())?;
     for at in 0..ids.len() {
-        told.push(Told {
+        told.push(UnitFlags {
             doubt: doubts[at],
             altered: is_altered(session, ids[at]),
         })?;
@@ -147,7 +147,7 @@ fn answers(
     alloc: Global,
     session: &Session,
     ids: &[AuId],
-    told: &[Told],
+    told: &[UnitFlags],
     controls: bool,
 ) -> Result<Vec<UnitAnswer>, AllocError>
     requires { length told.now ≡ length ids.now }
@@ -167,7 +167,7 @@ fn answer_of(
     alloc: Global,
     session: &Session,
     id: AuId,
-    told: Told,
+    told: UnitFlags,
     controls: bool,
 ) -> Result<Option<UnitAnswer>, AllocError>
     ensures { IfOk result (λ answer. answer
@@ -184,7 +184,7 @@ fn answer_of(
 
 /// The unit at an output position. It is looked for a little before the place of the same number
 /// and after it, and then further before it.
-fn found(session: &Session, position: u64) -> Option<Found>
+fn found(session: &Session, position: u64) -> Option<FoundUnit>
     ensures { IsFound session.now.register.stream position result }
 {
     let units = session.ids().len();
@@ -198,7 +198,7 @@ fn found(session: &Session, position: u64) -> Option<Found>
 }
 
 /// The first unit at a position, from a place on up to another.
-fn found_among(session: &Session, from: usize, to: usize, position: u64) -> Option<Found>
+fn found_among(session: &Session, from: usize, to: usize, position: u64) -> Option<FoundUnit>
     requires { to ≤ length session.now.register.stream }
     ensures { MatchOption result
         (IsNoneAmong session.now.register.stream position from to)
@@ -207,7 +207,7 @@ fn found_among(session: &Session, from: usize, to: usize, position: u64) -> Opti
     for at in from..to {
         let id = session.ids()[at];
         if has_position(session, id, position) {
-            return Some(Found {
+            return Some(FoundUnit {
                 id: id.number(),
                 place: at,
             });

@@ -2,21 +2,21 @@
 
 ghost use Rattle.std.specs.Prelude.{◌≡◌, ℕ, ◌+◌, ◌<◌, ◌≤◌, List, IfSome, None, vec_len};
 ghost use Rattle.std.specs.Vec.{vec_capacity};
-ghost use Rattle.edit_history.specs.Histories.{HasRoom as HasStepRoom};
+ghost use Rattle.edit_history.specs.Histories.{HasCapacity as HasStepCapacity};
 ghost use Rattle.edit_history.specs.Texts.{Texts};
 ghost use Rattle.stream_edits.specs.declared.edits.Edit.{Edit as EditValue};
 ghost use Rattle.stream_edits.specs.Edits.{Makes, Register};
 ghost use Rattle.stream_edits.specs.Groups.{MakesAll};
-ghost use Rattle.edit_history.specs.Following.{AreRefusedOf, Follows, FollowsAll, HasRoom, IsRefusedOf};
+ghost use Rattle.edit_history.specs.Following.{AreRefusedOf, Follows, FollowsAll, HasCapacity, IsRefusedOf};
 ghost use Rattle.edit_history.specs.States.{IsUnderWay, IsUndoRedo};
 ghost use Rattle.serve_calls.specs.Remembering.{AddsStep, GoesOn};
 
-use edit_history::undo_redo::{PreparedEdit, PreparedGroup, Step, UndoRedo};
+use edit_history::undo_redo::{OpenStep, PreparedEdit, PreparedGroup, UndoRedo};
 
 /// Takes in that an edit of a step was accepted, for which this was prepared. Nothing is prepared
 /// for an edit that the stream refuses.
-pub(crate) fn take_in(history: &mut UndoRedo, step: &mut Step, prepared: Option<PreparedEdit>)
-    requires room { IfSome prepared (HasRoom history.old.units) }
+pub(crate) fn take_in(history: &mut UndoRedo, step: &mut OpenStep, prepared: Option<PreparedEdit>)
+    requires capacity { IfSome prepared (HasCapacity history.old.units) }
     requires begun { vec_len step.old.changes < vec_capacity step.old.changes }
     ensures goes { (edit : EditValue) (before : Register) (id : ℕ) (after : Register)
         → IfSome prepared (Follows history.old.units edit)
@@ -36,7 +36,7 @@ pub(crate) fn take_in(history: &mut UndoRedo, step: &mut Step, prepared: Option<
 /// Takes in that edits were accepted together, for which this was prepared. Nothing is prepared for
 /// edits that the stream refuses.
 pub(crate) fn take_in_group(history: &mut UndoRedo, prepared: Option<PreparedGroup>)
-    requires { HasStepRoom history.old.history }
+    requires { HasStepCapacity history.old.history }
     ensures { (edits : List EditValue) (before : Register) (ids : List ℕ) (after : Register)
         → IfSome prepared (FollowsAll history.old.units edits)
         → (prepared ≡ None → AreRefusedOf history.old.units edits)

@@ -2,7 +2,7 @@
 
 ghost use Rattle.std.specs.Prelude.{◌≡◌, ◌+◌, ◌≤◌, ◌<◌, [], ◌∷◌, Err, IfOk, IfSome, IsErr, IsOk, OnOk, vec_len};
 ghost use Rattle.std.specs.Vec.{vec_capacity};
-ghost use Rattle.session_journal.specs.declared.steps.step.Step.TheVariants.{Edits, Load};
+ghost use Rattle.session_journal.specs.declared.steps.step.RecordedStep.TheVariants.{Edits, Load};
 ghost use Rattle.serve_calls.specs.declared.replaying.Unreplayed.TheVariants.{Memory};
 ghost use Rattle.serve_calls.specs.Replaying.{BeginsFrom, MakesEach, MakesOneIn, RefusesEdits, RefusesOne, ReplaysAll, ReplaysEdits, ReplaysOne};
 ghost use Rattle.serve_calls.specs.Resuming.{ReplaysOnto, ReplaysSteps, Resumes};
@@ -12,9 +12,9 @@ use crate::backend::Backend;
 use crate::journaled::Journaled;
 use crate::server::Server;
 use crate::unmade::{EditFault, GroupFault};
-use edit_history::undo_redo::{Step as Change, UndoRedo};
+use edit_history::undo_redo::{OpenStep, UndoRedo};
 use session_journal::Records;
-use session_journal::steps::Step;
+use session_journal::steps::RecordedStep;
 use stand_in_session::{EditRefused, GroupReceipt, GroupRefused, ReadGroup, Receipt};
 use std::alloc::AllocError;
 use stream_edits::Edit;
@@ -54,7 +54,7 @@ impl<B: Backend, K: Records + Drop, S> Server<Journaled<B, K>, S> {
     /// Makes recorded steps again, of which nothing can be undone, and records edits in this journal
     /// from then on. A last step that the stream refuses was never answered as made: it is taken off
     /// the journal.
-    pub fn resume(&mut self, journal: K, steps: Vec<Step>) -> Result<(), Unreplayed>
+    pub fn resume(&mut self, journal: K, steps: Vec<RecordedStep>) -> Result<(), Unreplayed>
         ensures { OnOk result (Resumes B.is_session K.stands K.ends self.old journal steps.items
             self.new) }
     {
@@ -66,7 +66,7 @@ impl<B: Backend, K: Records + Drop, S> Server<Journaled<B, K>, S> {
 
     /// Makes recorded steps again. A last one that the stream refuses is taken off this journal, which
     /// is given back.
-    fn replay_steps(&mut self, journal: K, steps: Vec<Step>) -> Result<K, Unreplayed>
+    fn replay_steps(&mut self, journal: K, steps: Vec<RecordedStep>) -> Result<K, Unreplayed>
         ensures { IfOk result (λ kept. ReplaysSteps B.is_session K.stands K.ends self.old journal
             steps.items kept self.new) }
     {
@@ -79,7 +79,12 @@ impl<B: Backend, K: Records + Drop, S> Server<Journaled<B, K>, S> {
 
     /// Makes recorded steps again, and behind them a last one, which is taken off this journal where
     /// the stream refuses it. The journal is given back.
-    fn replay_onto(&mut self, journal: K, steps: Vec<Step>, last: Step) -> Result<K, Unreplayed>
+    fn replay_onto(
+        &mut self,
+        journal: K,
+        steps: Vec<RecordedStep>,
+        last: RecordedStep,
+    ) -> Result<K, Unreplayed>
         ensures { IfOk result (λ kept. ReplaysOnto B.is_session K.stands K.ends self.old journal
             steps.items last kept self.new) }
     {
@@ -98,7 +103,7 @@ impl<B: Backend, K: Records + Drop, S> Server<Journaled<B, K>, S> {
 
 impl<B: Backend, S> Server<B, S> {
     /// Makes recorded steps again, one after the other.
-    fn replay_all(&mut self, steps: Vec<Step>) -> Result<(), Unreplayed>
+    fn replay_all(&mut self, steps: Vec<RecordedStep>) -> Result<(), Unreplayed>
         ensures { OnOk result (ReplaysAll B.is_session self.old steps.items self.new) }
     {
         for step in steps {
@@ -108,15 +113,15 @@ impl<B: Backend, S> Server<B, S> {
     }
 
     /// Makes a recorded step again.
-    fn replay(&mut self, step: Step) -> Result<(), Unreplayed>
+    fn replay(&mut self, step: RecordedStep) -> Result<(), Unreplayed>
         ensures made { OnOk result (ReplaysOne B.is_session self.old step self.new) }
         ensures refused { result ≡ Err Unreplayed.Refused
             → RefusesOne B.is_session self.old step self.new }
     {
         match step {
-            Step::Edits(edits) => self.replay_edits(edits.into_edits()),
-            Step::Load(edits) => self.replay_load(edits.into_edits()),
-            Step::Snapshot(snapshot) => self.begin_from(&snapshot),
+            RecordedStep::Edits(edits) => self.replay_edits(edits.into_edits()),
+            RecordedStep::Load(edits) => self.replay_load(edits.into_edits()),
+            RecordedStep::Snapshot(snapshot) => self.begin_from(&snapshot),
         }
     }
 
@@ -182,7 +187,7 @@ impl<B: Backend, S> Server<B, S> {
     }
 
     /// Makes recorded edits again, each by itself, in a step that is under way.
-    fn replay_each(&mut self, step: &mut Change, edits: Vec<Edit>) -> Result<(), Unreplayed>
+    fn replay_each(&mut self, step: &mut OpenStep, edits: Vec<Edit>) -> Result<(), Unreplayed>
         requires { vec_len step.old.changes + vec_len edits ≤ vec_capacity step.old.changes }
         ensures made { OnOk result (MakesEach B.is_session self.old step.old edits.items self.new
             step.new) }
@@ -196,7 +201,7 @@ impl<B: Backend, S> Server<B, S> {
     }
 
     /// Makes a recorded edit again in a step that is under way.
-    fn replay_in(&mut self, step: &mut Change, edit: Edit) -> Result<(), Unreplayed>
+    fn replay_in(&mut self, step: &mut OpenStep, edit: Edit) -> Result<(), Unreplayed>
         requires { vec_len step.old.changes < vec_capacity step.old.changes }
         ensures made { OnOk result (MakesOneIn B.is_session self.old step.old edit self.new
             step.new) }

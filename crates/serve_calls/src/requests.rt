@@ -11,7 +11,7 @@ use crate::wanted_units::WantedUnit;
 use console_io::file_saving::Saver;
 use serde_json::Value;
 use serve_answers::Answer;
-use serve_requests::{Call, Failure, Message, Request};
+use serve_requests::{Call, Failure, Message, RpcRequest};
 use std::thread::Threads;
 
 /// What became of a message.
@@ -38,7 +38,7 @@ impl<B: Backend, S: Saver> Server<B, S> {
             (parts_if message.now) result.answer self.new }
     {
         match message {
-            Message::Request(request) => self.serve_request(rt, wanted, request),
+            Message::RpcRequest(request) => self.serve_request(rt, wanted, request),
             Message::Other { .. } => refused(Failure::NotRequest),
         }
     }
@@ -48,7 +48,7 @@ impl<B: Backend, S: Saver> Server<B, S> {
         &mut self,
         rt: &R,
         wanted: &mut Vec<WantedUnit>,
-        request: &Request<'_>,
+        request: &RpcRequest<'_>,
     ) -> Served
         ensures serves { IsServed B.is_session B.offers S.file self.old wanted.old.items
             (parts_of request.now) result self.new wanted.new.items }

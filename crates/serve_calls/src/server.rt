@@ -2,9 +2,9 @@
 
 ghost use Rattle.std.specs.Prelude.{◌≡◌, ◌+◌, ◌<◌, ◌≤◌, [], ◌∷◌, IfSome, None, vec_len};
 ghost use Rattle.std.specs.Vec.{vec_capacity};
-ghost use Rattle.session_journal.specs.declared.steps.step.Step.TheVariants.{Edits};
+ghost use Rattle.session_journal.specs.declared.steps.step.RecordedStep.TheVariants.{Edits};
 ghost use Rattle.stream_edits.specs.Edits.{no_units};
-ghost use Rattle.edit_history.specs.Following.{Follows, HasRoom, IsRefusedOf};
+ghost use Rattle.edit_history.specs.Following.{Follows, HasCapacity, IsRefusedOf};
 ghost use Rattle.edit_history.specs.States.{IsUndoRedo};
 ghost use Rattle.serve_calls.specs.Editing.{DropsAs, EditsAs, GroupsAs, MakesEdit, MakesEditIn, MakesGroup, MakesStep, MarksAs, mark_answer};
 ghost use Rattle.serve_calls.specs.Recording.{CountsOn, KeepsRecords, RecordsIf, RecordsOnly};
@@ -12,12 +12,11 @@ ghost use Rattle.serve_calls.specs.Resetting.{ResetsAs};
 ghost use Rattle.serve_calls.specs.Sums.{no_sums};
 
 use crate::backend::Backend;
-use crate::failing::OUT_OF_MEMORY;
 use crate::remembering::{take_in, take_in_group};
 use crate::sums::{Sums, bytes_of, bytes_of_edit};
-use crate::unmade::{EditFault, GroupFault, of_group_made, of_made, unkept_failure};
+use crate::unmade::{EditFault, GroupFault, OUT_OF_MEMORY, of_group_made, of_made, unkept_failure};
 use crate::wanted_units::WantedUnit;
-use edit_history::undo_redo::{PreparedEdit, Step, UndoRedo};
+use edit_history::undo_redo::{OpenStep, PreparedEdit, UndoRedo};
 use edit_script::id_of_number;
 use serve_answers::{Answer, Word, of_drop, of_edit, of_group};
 use serve_requests::{Failure, Listed};
@@ -82,7 +81,11 @@ impl<B: Backend, S> Server<B, S> {
     }
 
     /// Edits the stream by an edit whose text is read, in a step that is under way.
-    pub(crate) fn edit_in(&mut self, step: &mut Step, read: ReadEdit) -> Result<Receipt, EditFault>
+    pub(crate) fn edit_in(
+        &mut self,
+        step: &mut OpenStep,
+        read: ReadEdit,
+    ) -> Result<Receipt, EditFault>
         requires { vec_len step.old.changes < vec_capacity step.old.changes }
         ensures makes { MakesEditIn B.is_session self.old step.old read result self.new step.new }
         ensures recorded { RecordsIf (B.records self.old.backend) (Edits (read ∷ [])) result
@@ -102,12 +105,12 @@ impl<B: Backend, S> Server<B, S> {
     /// may accept it.
     fn edit_prepared(
         &mut self,
-        step: &mut Step,
+        step: &mut OpenStep,
         prepared: Option<PreparedEdit>,
         read: ReadEdit,
     ) -> Result<Receipt, EditFault>
         requires begun { vec_len step.old.changes < vec_capacity step.old.changes }
-        requires room { IfSome prepared (HasRoom self.old.history.units) }
+        requires capacity { IfSome prepared (HasCapacity self.old.history.units) }
         requires follows { IfSome prepared (Follows self.old.history.units read) }
         requires none { prepared ≡ None → IsRefusedOf self.old.history.units read }
         ensures makes { MakesEditIn B.is_session self.old step.old read result self.new step.new }

@@ -6,23 +6,23 @@ ghost use Rattle.serve_answers.specs.JournalAnswers.{entry_answer};
 ghost use Rattle.serve_calls.specs.Texts.{TellsJournal, TellsText, journal_answer, text_answer};
 
 use crate::backend::Backend;
-use crate::failing::OUT_OF_MEMORY;
 use crate::server::Server;
+use crate::unmade::OUT_OF_MEMORY;
 use bytes::Bytes;
 use edit_script::id_of_number;
 use serve_answers::{Answer, Digits, EntryAnswer};
-use serve_requests::{Failure, Listed, Refusal};
+use serve_requests::{CallRefusal, Failure, Listed};
 use stand_in_session::Session;
 use std::alloc::{AllocError, Global};
 use stream_edits::JournalEntry;
 
 /// So many entries of the journal, from one on.
-fn stretch(journal: &[JournalEntry], from: u64, count: u64) -> &[JournalEntry]
+fn range(journal: &[JournalEntry], from: u64, count: u64) -> &[JournalEntry]
     ensures { result.now ≡ take count (drop from journal.now) }
 {
     let (_, rest) = journal.split_at((from as usize).min(journal.len()));
-    let (stretch, _) = rest.split_at((count as usize).min(rest.len()));
-    stretch
+    let (range, _) = rest.split_at((count as usize).min(rest.len()));
+    range
 }
 
 /// Entries of the journal, as they are told.
@@ -37,7 +37,7 @@ fn entries(alloc: Global, journal: &[JournalEntry]) -> Result<Listed<EntryAnswer
 }
 
 /// The result of a unit's text.
-fn told(alloc: Global, text: &Bytes) -> Result<Answer, Failure>
+fn text_answer(alloc: Global, text: &Bytes) -> Result<Answer, Failure>
     ensures { IsUnlessMemory (text_answer (Some text.now)) result }
 {
     match Digits::of_bytes(alloc, text.as_slice()) {
@@ -47,10 +47,15 @@ fn told(alloc: Global, text: &Bytes) -> Result<Answer, Failure>
 }
 
 /// The result of a question for so many entries of the journal, from one on.
-fn journal_told(alloc: Global, session: &Session, from: u64, count: u64) -> Result<Answer, Failure>
+fn journal_answer(
+    alloc: Global,
+    session: &Session,
+    from: u64,
+    count: u64,
+) -> Result<Answer, Failure>
     ensures { IsUnlessMemory (journal_answer (take count (drop from session.now.journal))) result }
 {
-    match entries(alloc, stretch(session.journal(), from, count)) {
+    match entries(alloc, range(session.journal(), from, count)) {
         Ok(entries) => Ok(Answer::Journal(entries)),
         Err(_) => Err(OUT_OF_MEMORY),
     }
@@ -62,8 +67,8 @@ impl<B: Backend, S> Server<B, S> {
         ensures { TellsText self.now.history number result }
     {
         match self.history.text(id_of_number(number)) {
-            Some(text) => told(self.alloc, text),
-            None => Err(Failure::Refused(Refusal::NoSuchUnit)),
+            Some(text) => text_answer(self.alloc, text),
+            None => Err(Failure::Refused(CallRefusal::NoSuchUnit)),
         }
     }
 
@@ -73,6 +78,6 @@ impl<B: Backend, S> Server<B, S> {
     {
         let alloc = self.alloc;
         self.backend
-            .look(|session| journal_told(alloc, session, from, count))
+            .look(|session| journal_answer(alloc, session, from, count))
     }
 }

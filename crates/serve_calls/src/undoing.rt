@@ -1,7 +1,7 @@
 //! `undo` and `redo`.
 
 ghost use Rattle.std.specs.Prelude.{◌≡◌, ◌+◌, ◌-◌, ◌<◌, length, min};
-ghost use Rattle.session_journal.specs.declared.steps.step.Step.TheVariants.{Edits};
+ghost use Rattle.session_journal.specs.declared.steps.step.RecordedStep.TheVariants.{Edits};
 ghost use Rattle.serve_calls.specs.Recording.{RecordsIf, RecordsSome};
 ghost use Rattle.serve_calls.specs.RecordingCalls.{AreRedoing, AreUndoing};
 ghost use Rattle.serve_calls.specs.Undoing.{GoesBy, Redoes, RedoesAs, Undoes, UndoesAs, undo_failure};
@@ -11,7 +11,7 @@ use crate::server::Server;
 use crate::unmade::{GroupFault, of_group_made};
 use edit_history::undo_redo::{NotUndone, UnitTexts};
 use serve_answers::Answer;
-use serve_requests::{Failure, Refusal};
+use serve_requests::{CallRefusal, Failure};
 use stand_in_session::{GroupReceipt, ReadGroup};
 use stream_edits::{Edit, EditRefused};
 
@@ -24,7 +24,7 @@ impl<B: Backend, S> Server<B, S> {
     {
         match self.history.undo(self.alloc) {
             Ok((edits, units)) => of_group_made(self.take_back(edits, units)),
-            Err(why) => Err(undo_failure(Refusal::NothingToUndo, why)),
+            Err(why) => Err(undo_failure(CallRefusal::NothingToUndo, why)),
         }
     }
 
@@ -52,7 +52,7 @@ impl<B: Backend, S> Server<B, S> {
     {
         match self.history.redo(self.alloc) {
             Ok((edits, units)) => of_group_made(self.make_again(edits, units)),
-            Err(why) => Err(undo_failure(Refusal::NothingToRedo, why)),
+            Err(why) => Err(undo_failure(CallRefusal::NothingToRedo, why)),
         }
     }
 
@@ -75,14 +75,14 @@ impl<B: Backend, S> Server<B, S> {
 }
 
 /// Why nothing is undone or redone, where nothing is there.
-fn undo_failure(none: Refusal, why: NotUndone) -> Failure
+fn undo_failure(none: CallRefusal, why: NotUndone) -> Failure
     ensures { result ≡ undo_failure none why }
 {
     let refusal = match why {
         NotUndone::Nothing => none,
-        NotUndone::IdsSpent => Refusal::Edit(EditRefused::IdsSpent),
-        NotUndone::Unfit => Refusal::NoSuchUnit,
-        NotUndone::Memory => Refusal::Memory,
+        NotUndone::IdsSpent => CallRefusal::Edit(EditRefused::IdsSpent),
+        NotUndone::Unfit => CallRefusal::NoSuchUnit,
+        NotUndone::Memory => CallRefusal::Memory,
     };
     Failure::Refused(refusal)
 }

@@ -6,9 +6,8 @@ ghost use Rattle.serve_calls.specs.declared.unmade.EditFault.TheVariants.{Refuse
 ghost use Rattle.serve_calls.specs.declared.unmade.GroupFault.TheVariants.{Refused as GroupIsRefused, Unkept as GroupIsUnkept};
 ghost use Rattle.serve_calls.specs.Unmade.{group_made_answer, made_answer, unkept_failure};
 
-use crate::failing::OUT_OF_MEMORY;
 use serve_answers::{Answer, of_edit, of_group};
-use serve_requests::{Failure, Refusal};
+use serve_requests::{CallRefusal, Failure};
 use session_journal::Unkept;
 use stand_in_session::{EditRefused, GroupReceipt, GroupRefused, Receipt};
 use std::alloc::AllocError;
@@ -76,7 +75,7 @@ pub(crate) fn unkept_failure(why: Unkept) -> Failure
     ensures { result ≡ unkept_failure why }
 {
     match why {
-        Unkept::Unwritten => Failure::Refused(Refusal::CannotWrite),
+        Unkept::Unwritten => Failure::Refused(CallRefusal::CannotWrite),
         Unkept::Memory => OUT_OF_MEMORY,
     }
 }
@@ -102,3 +101,6 @@ pub(crate) fn of_group_made(answer: Result<GroupReceipt, GroupFault>) -> Result<
         Err(GroupFault::Unkept(why)) => Err(unkept_failure(why)),
     }
 }
+
+/// That memory ran out.
+pub const OUT_OF_MEMORY: Failure = Failure::Refused(CallRefusal::Memory);

@@ -6,7 +6,7 @@ ghost use Rattle.stream_session.specs.declared.showing.Shown.TheVariants.{Ready}
 ghost use Rattle.stand_in_device.specs.declared.picture.Picture.{Picture};
 ghost use Rattle.serve_calls.specs.WantedUnits.{AddsOne, AreWanted, IsAmong, IsChanged};
 
-use serve_answers::{State, state_of};
+use serve_answers::{UnitState, state_of};
 use stand_in_session::{Picture, Shown};
 use std::alloc::{AllocError, Global};
 
@@ -35,7 +35,7 @@ impl WantedUnit {
 
     /// What is to be told of the unit that edits changed, where this is shown of it now. Of a picture
     /// `news` tells.
-    pub fn change(&self, has_edits: bool, shown: Shown) -> Option<State>
+    pub fn change(&self, has_edits: bool, shown: Shown) -> Option<UnitState>
         ensures { MatchOption result (IsChanged self.now has_edits shown → ⊥)
             (λ state. IsChanged self.now has_edits shown × (state_of shown ≡ Some state)) }
     {

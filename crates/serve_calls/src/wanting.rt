@@ -8,14 +8,14 @@ ghost use Rattle.serve_calls.specs.Sessions.{Asks};
 ghost use Rattle.serve_calls.specs.Wanting.{IsTold, TellsOf, TellsOne, WantsAs, not_now_of, picked, picture_of, ready_of, wanted_after};
 
 use crate::backend::Backend;
-use crate::failing::OUT_OF_MEMORY;
 use crate::lists::push_some;
 use crate::server::Server;
+use crate::unmade::OUT_OF_MEMORY;
 use crate::wanted_units::{WantedUnit, wanted_units};
 use edit_script::id_of_number;
 use h264_types::pictures::AuId;
 use serve_answers::{Answer, Digits, Picked};
-use serve_requests::{Failure, Listed, Refusal};
+use serve_requests::{CallRefusal, Failure, Listed};
 use stand_in_session::{Picture, Session, Shown};
 use std::alloc::{AllocError, Global};
 
@@ -24,7 +24,7 @@ const MOST_WANTED: usize = 64;
 
 /// What is told of wanted units at once.
 #[derive(Debug, Drop)]
-pub(crate) struct ToldNow {
+pub(crate) struct WantedNow {
     /// Those whose pictures are there.
     pub(crate) ready: Vec<Picked>,
     /// The numbers of those that there are none of or that aren't valid.
@@ -33,12 +33,12 @@ pub(crate) struct ToldNow {
     pub(crate) units: Vec<WantedUnit>,
 }
 
-impl ToldNow {
+impl WantedNow {
     /// Nothing is told.
-    fn nothing(alloc: Global) -> ToldNow
+    fn nothing(alloc: Global) -> WantedNow
         ensures { IsTold [] result }
     {
-        ToldNow {
+        WantedNow {
             ready: Vec::new(alloc),
             not_now: Vec::new(alloc),
             units: Vec::new(alloc),
@@ -91,7 +91,7 @@ impl<B: Backend, S> Server<B, S> {
         ensures recorded { KeepsRecords (B.records self.old.backend) (B.records self.new.backend) }
     {
         if numbers.len() > MOST_WANTED {
-            return Err(Failure::Refused(Refusal::TooManyWanted));
+            return Err(Failure::Refused(CallRefusal::TooManyWanted));
         }
         let Ok(ids) = ids_of(self.alloc, numbers) else {
             return Err(OUT_OF_MEMORY);
@@ -101,7 +101,7 @@ impl<B: Backend, S> Server<B, S> {
         };
         let told = self.tell_now(units.as_slice())?;
         self.backend.want(ids.as_slice(), rest);
-        let ToldNow {
+        let WantedNow {
             ready,
             not_now,
             units: told,
@@ -114,14 +114,16 @@ impl<B: Backend, S> Server<B, S> {
     }
 
     /// What is told of the units as the session is now.
-    fn tell_now(&self, units: &[WantedUnit]) -> Result<ToldNow, Failure>
+    fn tell_now(&self, units: &[WantedUnit]) -> Result<WantedNow, Failure>
         ensures { MatchResult result
             (λ told. Asks (B.is_session self.now.backend)
             (λ machine. TellsOf machine units.now told))
             (λ failure. failure ≡ out_of_memory) }
     {
         let alloc = self.alloc;
-        let told = self.backend.look(|session| told_now(alloc, session, units));
+        let told = self
+            .backend
+            .look(|session| wanted_now(alloc, session, units));
         match told {
             Ok(told) => Ok(told),
             Err(_) => Err(OUT_OF_MEMORY),
@@ -148,10 +150,14 @@ fn ids_of(alloc: Global, numbers: &[u64]) -> Result<Vec<AuId>, AllocError>
 }
 
 /// What is told of the units as the session is now.
-fn told_now(alloc: Global, session: &Session, units: &[WantedUnit]) -> Result<ToldNow, AllocError>
+fn wanted_now(
+    alloc: Global,
+    session: &Session,
+    units: &[WantedUnit],
+) -> Result<WantedNow, AllocError>
     ensures { IfOk result (TellsOf session.now units.now) }
 {
-    let mut told = ToldNow::nothing(alloc);
+    let mut told = WantedNow::nothing(alloc);
     for unit in units {
         let shown = session.show(id_of_number(unit.number));
         told.add(alloc, unit.number, shown)?;

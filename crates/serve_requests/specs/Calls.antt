@@ -7,8 +7,8 @@ use Rattle.serde_json.specs.Find.{get, as_array, as_bool, as_str, as_u64}
 use Rattle.edit_script.specs.Words.{id_of}
 use Rattle.stream_edits.specs.declared.edits.Edit.{Edit}
 use Rattle.stream_edits.specs.declared.edits.Edit.TheVariants as edit
-use Rattle.stream_edits.specs.declared.edits.Place.{Place}
-use Rattle.stream_edits.specs.declared.edits.Place.TheVariants.{First, After}
+use Rattle.stream_edits.specs.declared.edits.InsertionPoint.{InsertionPoint}
+use Rattle.stream_edits.specs.declared.edits.InsertionPoint.TheVariants.{First, After}
 use Rattle.serve_requests.specs.declared.fields.FieldFault.{FieldFault}
 use Rattle.serve_requests.specs.declared.fields.FieldFault.TheVariants.{Wrong, Memory}
 use Rattle.serve_requests.specs.declared.call.Call.{Call}
@@ -26,7 +26,7 @@ abbrev pub id_of_value : Data → Option ℕ
 id_of_value value = option_map id_of (number_of value)
 
 -- the place of an insertion: null is before all units
-abbrev pub place_of : Data → Option Place
+abbrev pub place_of : Data → Option InsertionPoint
 place_of null = Some First
 place_of (boolean b) = None
 place_of (number n) = option_map (λ it. After (id_of it)) (as_u64 n)
@@ -90,7 +90,7 @@ load_in parameters =
 abbrev pub save_in : Data → Result Call Parameter
 save_in parameters = and_then (required as_str parameter.Path parameters) (λ name. Ok (call.Save name))
 
--- the units of a stretch, and whether they are told with their controls
+-- the units of a range, and whether they are told with their controls
 abbrev pub units_in : Data → Result Call Parameter
 units_in parameters =
     and_then (required number_of parameter.From parameters) (λ from.
@@ -98,7 +98,7 @@ units_in parameters =
     and_then (optional as_bool parameter.Controls parameters) (λ controls.
     Ok (call.Units from count (unwrap_or controls false)))))
 
--- a stretch of the journal
+-- a range of the journal
 abbrev pub journal_in : Data → Result Call Parameter
 journal_in parameters =
     and_then (required number_of parameter.From parameters) (λ from.

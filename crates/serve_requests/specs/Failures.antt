@@ -1,7 +1,7 @@
 -- The codes, messages and details of failures (docs/SERVER.md).
 use Rattle.std.specs.Prelude.{ℕ, ℤ, pos, negsuc, List, codes, Option, Some, None}
-use Rattle.access_unit.specs.declared.room.Refusal.{Refusal as StreamRefusal}
-use Rattle.access_unit.specs.declared.room.Refusal.TheVariants as stream
+use Rattle.access_unit.specs.declared.stream_units.Refusal.{Refusal as StreamRefusal}
+use Rattle.access_unit.specs.declared.stream_units.Refusal.TheVariants as stream
 use Rattle.access_unit.specs.Names.{name_of as name_of_unit}
 use Rattle.access_unit.specs.Numbers.{number_of as number_of_unit}
 use Rattle.stream_edits.specs.GroupRefusals.{name_of_group, number_of_group}
@@ -14,8 +14,8 @@ use Rattle.serve_requests.specs.declared.failure.Detail.TheVariants as detail
 use Rattle.serve_requests.specs.declared.failure.Why.{Why}
 use Rattle.serve_requests.specs.declared.failure.Failure.{Failure}
 use Rattle.serve_requests.specs.declared.failure.Failure.TheVariants.{NotJson, NotRequest, NoMethod, Parameters, Refused}
-use Rattle.serve_requests.specs.declared.failure.Refusal.{Refusal}
-use Rattle.serve_requests.specs.declared.failure.Refusal.TheVariants as refusal
+use Rattle.serve_requests.specs.declared.failure.CallRefusal.{CallRefusal}
+use Rattle.serve_requests.specs.declared.failure.CallRefusal.TheVariants as refusal
 
 -- the number and the name of the refusal of a stream: of a unit's, that one's
 abbrev pub stream_number : StreamRefusal → ℕ
@@ -29,7 +29,7 @@ stream_name (stream.Unit index refused) = name_of_unit refused
 stream_name stream.StreamFull = codes "StreamFull"
 
 -- the number of a refusal
-abbrev pub number_of : Refusal → ℕ
+abbrev pub number_of : CallRefusal → ℕ
 number_of (refusal.Edit refused) = number_of_edit refused
 number_of (refusal.Group refused) = number_of_group refused
 number_of (refusal.Stream refused) = stream_number refused
@@ -44,7 +44,7 @@ number_of refusal.NothingToRedo = 27
 number_of refusal.Memory = 15
 
 -- the name of a refusal
-abbrev pub name_of : Refusal → List ℕ
+abbrev pub name_of : CallRefusal → List ℕ
 name_of (refusal.Edit refused) = name_of_edit refused
 name_of (refusal.Group refused) = name_of_group refused
 name_of (refusal.Stream refused) = stream_name refused
@@ -70,7 +70,7 @@ index_in_stream stream.Split = None
 index_in_stream (stream.Unit index refused) = Some index
 index_in_stream stream.StreamFull = None
 
-abbrev pub index_in : Refusal → Option ℕ
+abbrev pub index_in : CallRefusal → Option ℕ
 index_in (refusal.Edit refused) = None
 index_in (refusal.Group refused) = index_in_group refused
 index_in (refusal.Stream refused) = index_in_stream refused
@@ -85,7 +85,7 @@ index_in refusal.NothingToRedo = None
 index_in refusal.Memory = None
 
 -- how many units of a stream were inserted
-abbrev pub units_in : Refusal → Option ℕ
+abbrev pub units_in : CallRefusal → Option ℕ
 units_in (refusal.Edit refused) = None
 units_in (refusal.Group refused) = None
 units_in (refusal.Stream refused) = None
@@ -100,7 +100,7 @@ units_in refusal.NothingToRedo = None
 units_in refusal.Memory = None
 
 -- why something is refused, with these two
-abbrev pub why : Refusal → Why
+abbrev pub why : CallRefusal → Why
 why refused = record { index = index_in refused; units = units_in refused; reason = refused }
 
 -- the code of a failure (JSON-RPC 2.0, 5.1)

@@ -8,7 +8,7 @@ use Rattle.serde_json.specs.View.{view}
 use Rattle.serde_json.specs.declared.value.Value.{Value}
 use Rattle.serve_requests.specs.declared.message.Message.{Message}
 use Rattle.serve_requests.specs.declared.message.Message.TheVariants as message
-use Rattle.serve_requests.specs.declared.message.Request.{Request}
+use Rattle.serve_requests.specs.declared.message.RpcRequest.{RpcRequest}
 
 -- a request's id, its method's name and its parameters
 pub record Parts : Type 0 where
@@ -78,10 +78,10 @@ abbrev pub lent : Option (Bor Value) → Option Data
 lent value = option_map (λ it. view it.now) value
 
 -- the parts of a request in memory
-abbrev pub parts_of : Request → Parts
+abbrev pub parts_of : RpcRequest → Parts
 parts_of request = record { id = lent request.id; method = request.method.now; parameters = lent request.parameters }
 
 -- what a value is as a message
 abbrev pub IsMessage : Data → Message → Type 0
-IsMessage value (message.Request request) = request_in value ≡ Some (parts_of request)
+IsMessage value (message.RpcRequest request) = request_in value ≡ Some (parts_of request)
 IsMessage value (message.Other id) = (request_in value ≡ None) × (lent id ≡ id_in value)

@@ -2,14 +2,14 @@
 use Rattle.std.specs.Prelude.{ℕ, List, codes}
 use Rattle.access_unit.specs.declared.refused.Refused.{Refused}
 use Rattle.access_unit.specs.declared.refused.Refused.TheVariants as refused
-use Rattle.access_unit.specs.declared.room.Refusal.{Refusal as StreamRefusal}
-use Rattle.access_unit.specs.declared.room.Refusal.TheVariants as stream
+use Rattle.access_unit.specs.declared.stream_units.Refusal.{Refusal as StreamRefusal}
+use Rattle.access_unit.specs.declared.stream_units.Refusal.TheVariants as stream
 use Rattle.stream_edits.specs.declared.group_refused.GroupRefused.{GroupRefused}
 use Rattle.stream_edits.specs.declared.group_refused.GroupRefused.TheVariants as groups
 use Rattle.stream_edits.specs.declared.refusals.EditRefused.{EditRefused}
 use Rattle.stream_edits.specs.declared.refusals.EditRefused.TheVariants as edits
-use Rattle.serve_requests.specs.declared.failure.Refusal.{Refusal}
-use Rattle.serve_requests.specs.declared.failure.Refusal.TheVariants as refusal
+use Rattle.serve_requests.specs.declared.failure.CallRefusal.{CallRefusal}
+use Rattle.serve_requests.specs.declared.failure.CallRefusal.TheVariants as refusal
 
 -- why an access unit is refused
 abbrev pub unit_reason : Refused → List ℕ
@@ -50,7 +50,7 @@ stream_reason (stream.Unit index refused) = unit_reason refused
 stream_reason stream.StreamFull = edit_reason edits.StreamFull
 
 -- why something is refused
-abbrev pub reason_of : Refusal → List ℕ
+abbrev pub reason_of : CallRefusal → List ℕ
 reason_of (refusal.Edit refused) = edit_reason refused
 reason_of (refusal.Group refused) = group_reason refused
 reason_of (refusal.Stream refused) = stream_reason refused

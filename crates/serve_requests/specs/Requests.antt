@@ -4,7 +4,7 @@ use Rattle.serde_json.specs.Data.{Data, null, boolean, number, string, array, ob
 use Rattle.serve_requests.specs.declared.call.Call.{Call}
 use Rattle.serve_requests.specs.declared.failure.Failure.{Failure}
 use Rattle.serve_requests.specs.declared.failure.Failure.TheVariants.{NotJson, NotRequest, NoMethod, Parameters, Refused}
-use Rattle.serve_requests.specs.declared.failure.Refusal.TheVariants.{Memory}
+use Rattle.serve_requests.specs.declared.failure.CallRefusal.TheVariants.{Memory}
 use Rattle.serve_requests.specs.declared.method.Method.{Method}
 use Rattle.serve_requests.specs.declared.parameter.Parameter.{Parameter}
 use Rattle.serve_requests.specs.Calls.{call_with}

@@ -153,7 +153,7 @@ pub(crate) fn call_with(
     }
 }
 
-/// The units of a stretch.
+/// The units of a range.
 fn units(parameters: &Value) -> Result<Call, Parameter>
     ensures { result ≡ units_in (view parameters.now) }
 {
@@ -167,7 +167,7 @@ fn units(parameters: &Value) -> Result<Call, Parameter>
     })
 }
 
-/// A stretch of the journal.
+/// A range of the journal.
 fn journal(parameters: &Value) -> Result<Call, Parameter>
     ensures { result ≡ journal_in (view parameters.now) }
 {

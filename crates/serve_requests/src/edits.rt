@@ -13,7 +13,7 @@ use edit_script::id_of_number;
 use h264_types::pictures::AuId;
 use serde_json::Value;
 use std::alloc::Global;
-use stream_edits::{Edit, Place};
+use stream_edits::{Edit, InsertionPoint};
 
 /// An insertion.
 pub(crate) fn insertion(alloc: Global, parameters: &Value) -> Result<Edit, FieldFault>
@@ -48,15 +48,15 @@ fn id(parameters: &Value) -> Result<AuId, Parameter>
 }
 
 /// The place of an insertion.
-fn place(parameters: &Value) -> Result<Place, Parameter>
+fn place(parameters: &Value) -> Result<InsertionPoint, Parameter>
     ensures { result ≡ required place_of Parameter.After (view parameters.now) }
 {
     let value = value_at(parameters, Parameter::After).ok_or(Parameter::After)?;
     match value {
-        Value::Null => Ok(Place::First),
+        Value::Null => Ok(InsertionPoint::First),
         _ => {
             let number = value.as_u64().ok_or(Parameter::After)?;
-            Ok(Place::After(id_of_number(number)))
+            Ok(InsertionPoint::After(id_of_number(number)))
         }
     }
 }

@@ -23,12 +23,12 @@ pub enum Failure {
     /// none where they are an array and the method has no parameter.
     Parameters(Option<Parameter>),
     /// What was asked for is refused.
-    Refused(Refusal),
+    Refused(CallRefusal),
 }
 
 /// Why what was asked for is refused.
 #[derive(Clone, Copy, Debug, PartialEq, Eq)]
-pub enum Refusal {
+pub enum CallRefusal {
     /// An edit.
     Edit(EditRefused),
     /// A group of edits.
@@ -76,7 +76,7 @@ pub struct Why {
     pub units: Option<usize>,
     /// The refusal, written as its sentence.
     #[serde(serialize_with = "write_reason")]
-    pub reason: Refusal,
+    pub reason: CallRefusal,
 }
 
 impl Failure {
@@ -118,24 +118,24 @@ impl Failure {
     }
 }
 
-impl Refusal {
+impl CallRefusal {
     /// Its number.
     pub fn number(self) -> u8
         ensures { result ≡ number_of self }
     {
         match self {
-            Refusal::Edit(refused) => refused.number(),
-            Refusal::Group(refused) => refused.number(),
-            Refusal::Stream(refusal) => stream_number(refusal),
-            Refusal::Loading { refused, .. } => refused.number(),
-            Refusal::NoSuchUnit => 16,
-            Refusal::TooManyWanted => 22,
-            Refusal::CannotRead => 23,
-            Refusal::JobsSpent => 24,
-            Refusal::CannotWrite => 25,
-            Refusal::NothingToUndo => 26,
-            Refusal::NothingToRedo => 27,
-            Refusal::Memory => 15,
+            CallRefusal::Edit(refused) => refused.number(),
+            CallRefusal::Group(refused) => refused.number(),
+            CallRefusal::Stream(refusal) => stream_number(refusal),
+            CallRefusal::Loading { refused, .. } => refused.number(),
+            CallRefusal::NoSuchUnit => 16,
+            CallRefusal::TooManyWanted => 22,
+            CallRefusal::CannotRead => 23,
+            CallRefusal::JobsSpent => 24,
+            CallRefusal::CannotWrite => 25,
+            CallRefusal::NothingToUndo => 26,
+            CallRefusal::NothingToRedo => 27,
+            CallRefusal::Memory => 15,
         }
     }
 
@@ -144,18 +144,18 @@ impl Refusal {
         ensures { result.now ≡ name_of self }
     {
         match self {
-            Refusal::Edit(refused) => refused.name(),
-            Refusal::Group(refused) => refused.name(),
-            Refusal::Stream(refusal) => stream_name(refusal),
-            Refusal::Loading { refused, .. } => refused.name(),
-            Refusal::NoSuchUnit => "NoSuchUnit",
-            Refusal::TooManyWanted => "TooManyWanted",
-            Refusal::CannotRead => "CannotRead",
-            Refusal::JobsSpent => "JobsSpent",
-            Refusal::CannotWrite => "CannotWrite",
-            Refusal::NothingToUndo => "NothingToUndo",
-            Refusal::NothingToRedo => "NothingToRedo",
-            Refusal::Memory => "Memory",
+            CallRefusal::Edit(refused) => refused.name(),
+            CallRefusal::Group(refused) => refused.name(),
+            CallRefusal::Stream(refusal) => stream_name(refusal),
+            CallRefusal::Loading { refused, .. } => refused.name(),
+            CallRefusal::NoSuchUnit => "NoSuchUnit",
+            CallRefusal::TooManyWanted => "TooManyWanted",
+            CallRefusal::CannotRead => "CannotRead",
+            CallRefusal::JobsSpent => "JobsSpent",
+            CallRefusal::CannotWrite => "CannotWrite",
+            CallRefusal::NothingToUndo => "NothingToUndo",
+            CallRefusal::NothingToRedo => "NothingToRedo",
+            CallRefusal::Memory => "Memory",
         }
     }
 
@@ -171,9 +171,9 @@ impl Refusal {
         ensures { result ≡ why self }
     {
         let (index, units) = match self {
-            Refusal::Group(GroupRefused::Edit { index, .. }) => (Some(index), None),
-            Refusal::Stream(StreamRefusal::Unit { index, .. }) => (Some(index), None),
-            Refusal::Loading { units, .. } => (None, Some(units)),
+            CallRefusal::Group(GroupRefused::Edit { index, .. }) => (Some(index), None),
+            CallRefusal::Stream(StreamRefusal::Unit { index, .. }) => (Some(index), None),
+            CallRefusal::Loading { units, .. } => (None, Some(units)),
             _ => (None, None),
         };
         Why {
@@ -206,6 +206,6 @@ fn stream_name(refusal: StreamRefusal) -> &'static str
     }
 }
 
-fn write_reason<S: Serializer>(refusal: &Refusal, out: &mut S) -> Result<(), S::Error> {
+fn write_reason<S: Serializer>(refusal: &CallRefusal, out: &mut S) -> Result<(), S::Error> {
     refusal.reason().serialize(out)
 }

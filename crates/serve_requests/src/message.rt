@@ -11,14 +11,14 @@ use serde_json::Value;
 #[derive(Debug)]
 pub enum Message<'a> {
     /// A request.
-    Request(Request<'a>),
+    RpcRequest(RpcRequest<'a>),
     /// None, with its id if it has one that may be.
     Other { id: Option<&'a Value> },
 }
 
 /// A request.
 #[derive(Clone, Copy, Debug)]
-pub struct Request<'a> {
+pub struct RpcRequest<'a> {
     /// The id by which it is answered. One without isn't answered.
     pub id: Option<&'a Value>,
     /// The name of the method.
@@ -34,7 +34,7 @@ impl<'a> Message<'a> {
     {
         let method = value.get("method").and_then(Value::as_str);
         match method {
-            Some(method) if is_request(value) => Message::Request(Request {
+            Some(method) if is_request(value) => Message::RpcRequest(RpcRequest {
                 id: value.get("id"),
                 method,
                 parameters: value.get("params"),

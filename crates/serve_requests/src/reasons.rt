@@ -3,27 +3,27 @@
 ghost use Rattle.std.specs.Prelude.{◌≡◌};
 ghost use Rattle.serve_requests.specs.Reasons.{edit_reason, group_reason, reason_of, stream_reason, unit_reason};
 
-use crate::failure::Refusal;
+use crate::failure::CallRefusal;
 use access_unit::{Refusal as StreamRefusal, Refused};
 use stream_edits::{EditRefused, GroupRefused};
 
 /// Why something is refused.
-pub(crate) fn reason_of(refusal: Refusal) -> &'static str
+pub(crate) fn reason_of(refusal: CallRefusal) -> &'static str
     ensures { result.now ≡ reason_of refusal }
 {
     match refusal {
-        Refusal::Edit(refused) => edit_reason(refused),
-        Refusal::Group(refused) => group_reason(refused),
-        Refusal::Stream(refused) => stream_reason(refused),
-        Refusal::Loading { refused, .. } => edit_reason(refused),
-        Refusal::NoSuchUnit => "no unit has the id",
-        Refusal::TooManyWanted => "more than 64 ids are wanted",
-        Refusal::CannotRead => "the file can't be read",
-        Refusal::JobsSpent => "all numbers of jobs were given",
-        Refusal::CannotWrite => "the file can't be written",
-        Refusal::NothingToUndo => "there is nothing to undo",
-        Refusal::NothingToRedo => "there is nothing to redo",
-        Refusal::Memory => "out of memory",
+        CallRefusal::Edit(refused) => edit_reason(refused),
+        CallRefusal::Group(refused) => group_reason(refused),
+        CallRefusal::Stream(refused) => stream_reason(refused),
+        CallRefusal::Loading { refused, .. } => edit_reason(refused),
+        CallRefusal::NoSuchUnit => "no unit has the id",
+        CallRefusal::TooManyWanted => "more than 64 ids are wanted",
+        CallRefusal::CannotRead => "the file can't be read",
+        CallRefusal::JobsSpent => "all numbers of jobs were given",
+        CallRefusal::CannotWrite => "the file can't be written",
+        CallRefusal::NothingToUndo => "there is nothing to undo",
+        CallRefusal::NothingToRedo => "there is nothing to redo",
+        CallRefusal::Memory => "out of memory",
     }
 }
 

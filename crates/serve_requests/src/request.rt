@@ -6,14 +6,14 @@ ghost use Rattle.serde_json.specs.View.{view};
 ghost use Rattle.serve_requests.specs.Messages.{lent, parts_of};
 
 use crate::call::{Call, call_with};
-use crate::failure::{Failure, Refusal};
+use crate::failure::{CallRefusal, Failure};
 use crate::fields::FieldFault;
-use crate::message::Request;
+use crate::message::RpcRequest;
 use crate::method::Method;
 use serde_json::Value;
 use std::alloc::Global;
 
-impl<'a> Request<'a> {
+impl<'a> RpcRequest<'a> {
     /// The call that it asks for, or why it asks for none. Methods about jobs are there where
     /// `has_jobs` says so, and that about a journal's file where `has_journal` does; one that isn't
     /// there is refused as such, whatever its parameters are.
@@ -49,7 +49,7 @@ fn call_by(alloc: Global, method: Method, parameters: &Value) -> Result<Call, Fa
     match call_with(alloc, method, parameters) {
         Ok(call) => Ok(call),
         Err(FieldFault::Wrong(parameter)) => Err(Failure::Parameters(Some(parameter))),
-        Err(FieldFault::Memory) => Err(Failure::Refused(Refusal::Memory)),
+        Err(FieldFault::Memory) => Err(Failure::Refused(CallRefusal::Memory)),
     }
 }
 

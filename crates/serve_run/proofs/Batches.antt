@@ -65,5 +65,5 @@ or_false false = refl
 
 -- the request that a message is
 pub request_of : (value : Data) (it : Message) → IsMessage value it → parts_if it ≡ request_in value
-request_of value (message.Request request) is = sym is
+request_of value (message.RpcRequest request) is = sym is
 request_of value (message.Other id) is = sym is.0

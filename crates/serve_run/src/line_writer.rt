@@ -81,7 +81,7 @@ impl<W: Write> LineWriter<W> {
         };
         let unit = *unit;
         let shown = backend.look(|session| session.show(id_of_number(unit.number)));
-        let told = self.told_of(unit, has_edits, shown)?;
+        let told = self.report(unit, has_edits, shown)?;
         if let Some(place) = self.wanted.get_mut(at) {
             *place = WantedUnit {
                 number: unit.number,
@@ -94,7 +94,7 @@ impl<W: Write> LineWriter<W> {
 
     /// Writes what is to be told of a wanted unit where this is shown of it: the picture that was
     /// told of it last then.
-    fn told_of(
+    fn report(
         &mut self,
         unit: WantedUnit,
         has_edits: bool,

@@ -1,7 +1,7 @@
 //! What a server serves with.
 
-use crate::lines::{Lines, MOST_BYTES};
-use session_journal::Step;
+use crate::lines::{InputLines, MOST_BYTES};
+use session_journal::RecordedStep;
 use std::alloc::Global;
 use std::io;
 use std::io::Read;
@@ -13,7 +13,7 @@ pub struct Service<K, I, S> {
     pub cache: u16,
     /// The journal in which edits are recorded, if there is one, with its steps, which are made
     /// again first.
-    pub journal: Option<(K, Vec<Step>)>,
+    pub journal: Option<(K, Vec<RecordedStep>)>,
     /// What the messages are read from.
     pub input: I,
     /// The files that messages name.
@@ -24,15 +24,15 @@ pub struct Service<K, I, S> {
 /// input, and the files.
 #[derive(Drop)]
 pub(crate) struct Reading<K, I, S> {
-    pub(crate) journal: Option<(K, Vec<Step>)>,
-    pub(crate) lines: Lines<I>,
+    pub(crate) journal: Option<(K, Vec<RecordedStep>)>,
+    pub(crate) lines: InputLines<I>,
     pub(crate) files: S,
 }
 
 impl<K: Drop, I: Read + Drop, S: Drop> Service<K, I, S> {
     /// What the thread of the reader has of it.
     pub(crate) fn reading(self, alloc: Global) -> io::Result<Reading<K, I, S>> {
-        let lines = Lines::of(alloc, self.input, MOST_BYTES)?;
+        let lines = InputLines::of(alloc, self.input, MOST_BYTES)?;
         Ok(Reading {
             journal: self.journal,
             lines,

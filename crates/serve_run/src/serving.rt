@@ -14,7 +14,7 @@ ghost use Rattle.serve_run.specs.Serving.{GoesOn, GoesOnAfter, ServesAll, end_an
 use crate::answers::Answers;
 use crate::end::ServeEnd;
 use crate::line_writer::{Fault, LineWriter};
-use crate::lines::{Line, Lines};
+use crate::lines::{InputLine, InputLines};
 use crate::service::Service;
 use console_io::Source;
 use console_io::file_saving::Saver;
@@ -22,8 +22,8 @@ use failure_reasons::Explain;
 use serde_json::{Category, Error, Value};
 use serve_answers::Answer;
 use serve_calls::{Alone, Backend, Journaled, OUT_OF_MEMORY, Server, Unreplayed, WantedUnit};
-use serve_requests::{Failure, Message, Refusal, Request};
-use session_journal::{Records, Step};
+use serve_requests::{CallRefusal, Failure, Message, RpcRequest};
+use session_journal::{RecordedStep, Records};
 use std::alloc::Global;
 use std::io::{ErrorKind, Read, Write};
 use std::slice;
@@ -69,7 +69,7 @@ where
 /// or how the server ends.
 pub(crate) fn resume<B: Backend, K: Records + Drop, S>(
     server: &mut Server<Journaled<B, K>, S>,
-    journal: Option<(K, Vec<Step>)>,
+    journal: Option<(K, Vec<RecordedStep>)>,
 ) -> Result<(), ServeEnd> {
     let Some((journal, steps)) = journal else {
         return Ok(());
@@ -86,7 +86,7 @@ fn serve_next<R: Threads + Sync, B: Backend, I: Read + Drop, S: Saver + Explain,
     rt: &R,
     server: &mut Server<B, S>,
     writer: &mut LineWriter<W>,
-    lines: &mut Lines<I>,
+    lines: &mut InputLines<I>,
 ) -> Result<(), ServeEnd> {
     match lines.next() {
         Ok(line) => serve_line(rt, server, writer, line),
@@ -99,13 +99,13 @@ pub(crate) fn serve_line<R: Threads + Sync, B: Backend, S: Saver + Explain, W: W
     rt: &R,
     server: &mut Server<B, S>,
     writer: &mut LineWriter<W>,
-    line: Line,
+    line: InputLine,
 ) -> Result<(), ServeEnd> {
     match line {
-        Line::Text(text) => serve_text(rt, server, writer, text.as_slice()),
-        Line::TooLong => refuse(server.alloc, writer, Failure::NotRequest),
-        Line::Memory => refuse(server.alloc, writer, OUT_OF_MEMORY),
-        Line::End => Err(ServeEnd::Done),
+        InputLine::Text(text) => serve_text(rt, server, writer, text.as_slice()),
+        InputLine::TooLong => refuse(server.alloc, writer, Failure::NotRequest),
+        InputLine::Memory => refuse(server.alloc, writer, OUT_OF_MEMORY),
+        InputLine::End => Err(ServeEnd::Done),
     }
 }
 
@@ -247,7 +247,7 @@ fn serve_one<R: Threads + Sync, B: Backend, S: Saver + Explain>(
 /// The name of the file that a message asked to load, where it isn't taken as a stream.
 fn untaken_file<'a>(message: &Message<'a>, answer: &Result<Answer, Failure>) -> Option<&'a str> {
     match (message, answer) {
-        (Message::Request(request), Err(Failure::Refused(refusal))) if is_untaken(*refusal) => {
+        (Message::RpcRequest(request), Err(Failure::Refused(refusal))) if is_untaken(*refusal) => {
             loaded_file(request)
         }
         _ => None,
@@ -255,12 +255,12 @@ fn untaken_file<'a>(message: &Message<'a>, answer: &Result<Answer, Failure>) -> 
 }
 
 /// Whether a file is refused so that can't be read, or isn't taken as a stream.
-fn is_untaken(refusal: Refusal) -> bool {
-    matches!(refusal, Refusal::CannotRead | Refusal::Stream(_))
+fn is_untaken(refusal: CallRefusal) -> bool {
+    matches!(refusal, CallRefusal::CannotRead | CallRefusal::Stream(_))
 }
 
 /// The name of the file that a request asks to load, if it does.
-fn loaded_file<'a>(request: &Request<'a>) -> Option<&'a str> {
+fn loaded_file<'a>(request: &RpcRequest<'a>) -> Option<&'a str> {
     match (request.method, request.parameters) {
         ("load", Some(parameters)) => parameters.get("path").and_then(Value::as_str),
         _ => None,
@@ -270,7 +270,7 @@ fn loaded_file<'a>(request: &Request<'a>) -> Option<&'a str> {
 /// Lets a message go that was served.
 fn let_go(message: Message<'_>) {
     match message {
-        Message::Request(_) | Message::Other { id: _ } => {}
+        Message::RpcRequest(_) | Message::Other { id: _ } => {}
     }
 }
 
@@ -292,7 +292,7 @@ fn refuse<W: Write>(
 /// id isn't answered.
 fn answered_id<'a>(message: &Message<'a>) -> Option<Option<&'a Value>> {
     match message {
-        Message::Request(request) => match request.id {
+        Message::RpcRequest(request) => match request.id {
             Some(id) => Some(Some(id)),
             None => None,
         },

@@ -5,7 +5,7 @@ ghost use Rattle.std.specs.Prelude.{◌≡◌, ◌≤◌, length, IfOk};
 
 use crate::desk_backend::{DeskBackend, SharedDesk};
 use crate::end::ServeEnd;
-use crate::lines::Lines;
+use crate::lines::InputLines;
 use crate::service::{Reading, Service};
 use crate::serving::{resume, serve_line};
 use console_io::file_saving::Saver;
@@ -200,7 +200,7 @@ fn serve_next<R, K, I, S, W>(
     rt: &R,
     shared: &SharedDesk<W>,
     server: &mut Server<Journaled<DeskBackend<'_, R>, K>, S>,
-    lines: &mut Lines<I>,
+    lines: &mut InputLines<I>,
 ) -> Result<(), ServeEnd>
 where
     R: Threads + Wait + Sync,

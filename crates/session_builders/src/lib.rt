@@ -6,4 +6,4 @@ mod folded;
 mod told;
 
 pub use folded::tells_each;
-pub use told::{Told, are_ids, edit_of, edits_of};
+pub use told::{EditRow, are_ids, edit_of, edits_of};

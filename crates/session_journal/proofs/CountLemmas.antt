@@ -2,20 +2,20 @@
 use Rattle.std.proofs.Common.{◌≡◌, ℕ, zero, suc, ◌≤◌, List, [], ◌∷◌, ◌++◌, length, take, refl, ap, arith}
 use Rattle.std.specs.List.{AllByRecursion}
 use Rattle.stream_edits.specs.declared.edits.Edit.{Edit}
-use Rattle.edit_journal.specs.declared.line.Step.{Step as Kept}
-use Rattle.session_journal.specs.Kept.{given_after, given_after_edits, kept_of, kept_of_edits}
+use Rattle.edit_journal.specs.declared.line.RowStep.{RowStep}
+use Rattle.session_journal.specs.RecordRows.{given_after, given_after_edits, row_of, rows_of_edits}
 use Rattle.session_journal.proofs.KeptLemmas.{grows}
 
 -- as many rows as edits
-pub length-kept_of_edits : (given : ℕ) (edits : List Edit) → length (kept_of_edits given edits) ≡ length edits
-length-kept_of_edits given [] = refl
-length-kept_of_edits given (edit ∷ edits) = omega (arith, length-kept_of_edits (given_after given edit) edits)
+pub length-rows_of_edits : (given : ℕ) (edits : List Edit) → length (rows_of_edits given edits) ≡ length edits
+length-rows_of_edits given [] = refl
+length-rows_of_edits given (edit ∷ edits) = omega (arith, length-rows_of_edits (given_after given edit) edits)
 
 -- the rows of the first edits are the first ones
-pub take-kept_of_edits : (n given : ℕ) (edits : List Edit) → take n (kept_of_edits given edits) ≡ kept_of_edits given (take n edits)
-take-kept_of_edits zero given edits = refl
-take-kept_of_edits (suc n) given [] = refl
-take-kept_of_edits (suc n) given (edit ∷ edits) = ap (λ (more : List Kept). kept_of given edit ∷ more) (take-kept_of_edits n (given_after given edit) edits)
+pub take-rows_of_edits : (n given : ℕ) (edits : List Edit) → take n (rows_of_edits given edits) ≡ rows_of_edits given (take n edits)
+take-rows_of_edits zero given edits = refl
+take-rows_of_edits (suc n) given [] = refl
+take-rows_of_edits (suc n) given (edit ∷ edits) = ap (λ (more : List RowStep). row_of given edit ∷ more) (take-rows_of_edits n (given_after given edit) edits)
 
 -- the first edits give no more ids than all
 pub first_grow : (n given : ℕ) (edits : List Edit) → given_after_edits given (take n edits) ≤ given_after_edits given edits

@@ -9,14 +9,14 @@ use Rattle.edit_journal.specs.declared.journal.Journal.{Journal}
 use Rattle.edit_journal.specs.declared.line.Line.{Line}
 use Rattle.edit_journal.specs.Journals.{Stands}
 use Rattle.edit_journal.specs.Lines.{edit_tree}
-use Rattle.session_journal.specs.declared.steps.step.Step.{Step}
-use Rattle.session_journal.specs.declared.steps.step.Step.TheVariants.{Edits, Load}
-use Rattle.session_journal.specs.Kept.{IsStep, given_after_edits}
+use Rattle.session_journal.specs.declared.steps.step.RecordedStep.{RecordedStep}
+use Rattle.session_journal.specs.declared.steps.step.RecordedStep.TheVariants.{Edits, Load}
+use Rattle.session_journal.specs.RecordRows.{IsStep, given_after_edits}
 use Rattle.session_journal.specs.Records.{given_by_steps, lines_of_steps}
 use Rattle.session_journal.proofs.LineLemmas.{given_then}
 use Rattle.session_journal.specs.declared.session_journal.SessionJournal.{SessionJournal}
 use Rattle.session_journal.specs.Standing.{HasSteps, IsEnd, Standing}
-use Rattle.session_journal.proofs.CountLemmas.{all_last, length-kept_of_edits}
+use Rattle.session_journal.proofs.CountLemmas.{all_last, length-rows_of_edits}
 
 -- a list has one last item
 pub last_is : {X : Type 0} (xs ys : List X) (x y : X) → xs ++ x ∷ [] ≡ ys ++ y ∷ [] → x ≡ y
@@ -35,7 +35,7 @@ not_edits a b is = cc
 
 module _ {S : Type 0} (g : Ghosts S) where
   -- the lines that were read are those of the steps
-  pub opened_has : (journal : Journal S) (lines : List Line) (steps : List Step) → lines ≡ lines_of_steps 0 1 steps → journal.entries ≡ length steps
+  pub opened_has : (journal : Journal S) (lines : List Line) (steps : List RecordedStep) → lines ≡ lines_of_steps 0 1 steps → journal.entries ≡ length steps
       → (IsClean (g.view journal.store) → Stands (g.view journal.store) journal.rows lines)
       → ((db : Trees) → IsTrue (g.view journal.store).is_open → g.recovers journal.store db → db ≡ (g.view journal.store).committed) → HasSteps g journal steps
   opened_has journal lines steps is entries given settled = record {
@@ -46,14 +46,14 @@ module _ {S : Type 0} (g : Ghosts S) where
   }
 
   -- and a last step of edits is known
-  pub opened_end : (it : SessionJournal S) (steps front : List Step) (edits : List Edit) → steps ≡ front ++ Edits edits ∷ [] → Standing g it steps → AllByRecursion IsStep steps
+  pub opened_end : (it : SessionJournal S) (steps front : List RecordedStep) (edits : List Edit) → steps ≡ front ++ Edits edits ∷ [] → Standing g it steps → AllByRecursion IsStep steps
       → it.last.rows ≡ length edits → ((before : ℕ) → it.given ≡ given_after_edits before edits → it.last.before ≡ before) → it.last.load ≡ None → IsEnd g it front (Edits edits)
   opened_end it steps front edits is stands are rows before load =
       let step = all_last IsStep front (Edits edits) (subst (AllByRecursion IsStep) is are) in
       record {
         stands = subst (Standing g it) is stands;
         before = before (given_by_steps 0 front) (stands.given ∙ ap (given_by_steps 0) is ∙ given_then 0 front (Edits edits));
-        rows = rows ∙ sym (length-kept_of_edits it.last.before edits);
+        rows = rows ∙ sym (length-rows_of_edits it.last.before edits);
         some = omega (arith, rows, step);
         load = load;
       }

@@ -1,4 +1,4 @@
-pub mod Kept
+pub mod RecordRows
 pub mod Records
 pub mod SessionJournalKept
 pub mod Standing

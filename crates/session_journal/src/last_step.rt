@@ -2,7 +2,7 @@
 
 ghost use Rattle.std.specs.Prelude.{◌≡◌, ◌≢◌, ◌+◌, ◌<◌, ◌≤◌, ◌^◌, ℕ, List, None, Some, length, min, take};
 ghost use Rattle.stream_edits.specs.declared.edits.Edit.{Edit as EditValue};
-ghost use Rattle.session_journal.specs.Kept.{given_after_edits};
+ghost use Rattle.session_journal.specs.RecordRows.{given_after_edits};
 
 use crate::steps::EditList;
 use stream_edits::Edit;

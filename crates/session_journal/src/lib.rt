@@ -15,7 +15,7 @@ mod session_journal;
 pub mod steps;
 mod unkept;
 
-pub use crate::steps::{EditList, Snapshot, Step};
+pub use crate::steps::{EditList, RecordedStep, Snapshot};
 pub use edit_journal::JournalFault;
 pub use opening::{Journals, SessionFile};
 pub use records::Records;

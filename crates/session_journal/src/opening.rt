@@ -10,9 +10,9 @@ ghost use Rattle.sqlite_wal.specs.Files.{image_at};
 ghost use Rattle.stream_edits.specs.declared.edits.Edit.{Edit as EditValue};
 ghost use Rattle.edit_journal.specs.Journals.{Stands};
 ghost use Rattle.edit_journal.specs.Tables.{IsJournal};
-ghost use Rattle.session_journal.specs.declared.steps.step.Step.{Step as StepValue};
-ghost use Rattle.session_journal.specs.declared.steps.step.Step.TheVariants.{Edits};
-ghost use Rattle.session_journal.specs.Kept.{IsStep, given_after_edits};
+ghost use Rattle.session_journal.specs.declared.steps.step.RecordedStep.{RecordedStep as StepValue};
+ghost use Rattle.session_journal.specs.declared.steps.step.RecordedStep.TheVariants.{Edits};
+ghost use Rattle.session_journal.specs.RecordRows.{IsStep, given_after_edits};
 ghost use Rattle.session_journal.specs.Records.{lines_of_steps};
 ghost use Rattle.session_journal.specs.SessionJournalKept.{IsFirstOnly, is_snapshot};
 ghost use Rattle.session_journal.specs.Standing.{IsEnd, Standing};
@@ -20,7 +20,7 @@ ghost use Rattle.session_journal.specs.Standing.{IsEnd, Standing};
 use crate::last_step::{LastStep, given_before};
 use crate::records::Records;
 use crate::session_journal::SessionJournal;
-use crate::steps::{Step, read};
+use crate::steps::{RecordedStep, read};
 use edit_journal::{Journal, JournalFault, Line, Start, Wary, open};
 use sqlite_std_file::FileFrom;
 use sqlite_store::FileStore;
@@ -41,7 +41,7 @@ pub trait Journals {
         &self,
         alloc: Global,
         name: &str,
-    ) -> Result<(Self::Journal, Vec<Step>), JournalFault>
+    ) -> Result<(Self::Journal, Vec<RecordedStep>), JournalFault>
         ensures stands { IfOk result (λ made. Self.Journal.Records.stands made.0 made.1.items) }
         ensures ends { IfOk result (λ made. (front : List StepValue) (edits : List EditValue)
             → made.1.items ≡ front ++ Edits edits ∷ []
@@ -56,7 +56,7 @@ impl Journals for HostRuntime {
         &self,
         alloc: Global,
         name: &str,
-    ) -> Result<(SessionFile, Vec<Step>), JournalFault>
+    ) -> Result<(SessionFile, Vec<RecordedStep>), JournalFault>
         ensures stands { IfOk result (λ made. ⟦<SessionFile as Records>⟧.stands made.0 made.1.items) }
         ensures ends { IfOk result (λ made. (front : List StepValue) (edits : List EditValue)
             → made.1.items ≡ front ++ Edits edits ∷ []
@@ -77,7 +77,7 @@ fn opened<S: Alter + Drop>(
     alloc: Global,
     journal: Journal<S>,
     lines: &[Line],
-) -> Result<(SessionJournal<S>, Vec<Step>), JournalFault>
+) -> Result<(SessionJournal<S>, Vec<RecordedStep>), JournalFault>
     requires { IsClean (S.Store.view journal.store)
         → Stands (S.Store.view journal.store) journal.rows lines.now }
     ensures stands { IfOk result (λ made. Standing S.Store made.0 made.1.items) }
@@ -105,38 +105,38 @@ fn opened<S: Alter + Drop>(
     Ok((journal, steps))
 }
 
-fn is_snapshot(step: &Step) -> bool
+fn is_snapshot(step: &RecordedStep) -> bool
     ensures { result ≡ is_snapshot step.now }
 {
     match step {
-        Step::Edits(_) | Step::Load(_) => false,
-        Step::Snapshot(_) => true,
+        RecordedStep::Edits(_) | RecordedStep::Load(_) => false,
+        RecordedStep::Snapshot(_) => true,
     }
 }
 
 /// Whether none of the steps is a snapshot.
-fn are_no_snapshots(steps: &[Step]) -> bool
+fn are_no_snapshots(steps: &[RecordedStep]) -> bool
     ensures { IsTrue result ↔ All (λ step. is_snapshot step ≡ false) steps.now }
 {
     steps.iter().all(|step| !is_snapshot(step))
 }
 
 /// The steps behind the first one.
-fn others(steps: &[Step]) -> &[Step]
+fn others(steps: &[RecordedStep]) -> &[RecordedStep]
     ensures { result.now ≡ drop 1 steps.now }
 {
     &steps[1.min(steps.len())..]
 }
 
 /// Whether none of the steps but the first is a snapshot.
-fn is_first_only(steps: &[Step]) -> bool
+fn is_first_only(steps: &[RecordedStep]) -> bool
     ensures { IsTrue result ↔ IsFirstOnly steps.now }
 {
     are_no_snapshots(others(steps))
 }
 
 /// What is known of the last step, where so many ids were given in all.
-fn last_of(steps: &[Step], given: u32) -> Result<LastStep, JournalFault>
+fn last_of(steps: &[RecordedStep], given: u32) -> Result<LastStep, JournalFault>
     ensures rows { IfOk result (λ last. (front : List StepValue) (edits : List EditValue)
         → steps.now ≡ front ++ Edits edits ∷ [] → last.rows ≡ length edits) }
     ensures before { IfOk result (λ last. (front : List StepValue) (edits : List EditValue)
@@ -145,8 +145,10 @@ fn last_of(steps: &[Step], given: u32) -> Result<LastStep, JournalFault>
     ensures load { IfOk result (λ last. last.load ≡ None) }
 {
     match steps.split_last() {
-        Some((Step::Edits(edits), _)) => last_edits(edits.edits(), given),
-        Some((Step::Load(_) | Step::Snapshot(_), _)) | None => Ok(LastStep::none(given)),
+        Some((RecordedStep::Edits(edits), _)) => last_edits(edits.edits(), given),
+        Some((RecordedStep::Load(_) | RecordedStep::Snapshot(_), _)) | None => Ok(LastStep::none(
+            given,
+        )),
     }
 }
 

@@ -1,8 +1,8 @@
 //! One who records the edits of a session, so that they stand after a crash.
 
 ghost use Rattle.std.specs.Prelude.{◌≡◌, ◌∷◌, List, [], OnErr, OnOk};
-ghost use Rattle.session_journal.specs.declared.steps.step.Step.{Step as StepValue};
-ghost use Rattle.session_journal.specs.declared.steps.step.Step.TheVariants.{Edits, Load, Snapshot as SnapshotStep};
+ghost use Rattle.session_journal.specs.declared.steps.step.RecordedStep.{RecordedStep as StepValue};
+ghost use Rattle.session_journal.specs.declared.steps.step.RecordedStep.TheVariants.{Edits, Load, Snapshot as SnapshotStep};
 ghost use Rattle.session_journal.specs.Records.{given_by_steps};
 ghost use Rattle.session_journal.specs.SessionJournalKept.{AddsOne, EndsWith, LeavesOr, LeavesOrOnly, Stays, with_left};
 

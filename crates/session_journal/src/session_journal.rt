@@ -2,8 +2,8 @@
 
 ghost use Rattle.std.specs.Prelude.{◌≡◌, ◌<◌, List, false, IsTrue, OnErr, OnOk};
 ghost use Rattle.sqlite_trees.specs.View.{IsClean};
-ghost use Rattle.session_journal.specs.declared.steps.step.Step.{Step as StepValue};
-ghost use Rattle.session_journal.specs.Kept.{given_by_step, kept_of_step};
+ghost use Rattle.session_journal.specs.declared.steps.step.RecordedStep.{RecordedStep as StepValue};
+ghost use Rattle.session_journal.specs.RecordRows.{given_by_step, rows_of_step};
 ghost use Rattle.session_journal.specs.SessionJournalKept.{EndsWith, LeavesOr, LeavesOrOnly, Stays};
 ghost use Rattle.session_journal.specs.Standing.{AreRecordOf, CrashLeaves, IsEnd, LeavesNone, LeavesSome, Standing, load_of};
 
@@ -11,7 +11,7 @@ use crate::last_step::LastStep;
 use crate::records::Records;
 use crate::steps::{EditList, Snapshot, keep_group, keep_load, keep_snapshot};
 use crate::unkept::Unkept;
-use edit_journal::{Journal, Step as Kept};
+use edit_journal::{Journal, RowStep};
 use sqlite_trees::store::Alter;
 use std::alloc::Global;
 use std::slice;
@@ -53,13 +53,13 @@ impl<S: Alter> SessionJournal<S> {
     }
 
     /// Records what is kept of a step, after which so many ids were given.
-    fn keep(&mut self, rows: &[Kept], after: u32, load: Option<EditList>) -> Result<(), Unkept>
-        ensures kept { OnOk result ((step : StepValue) → rows.now ≡ kept_of_step self.old.given step
+    fn keep(&mut self, rows: &[RowStep], after: u32, load: Option<EditList>) -> Result<(), Unkept>
+        ensures kept { OnOk result ((step : StepValue) → rows.now ≡ rows_of_step self.old.given step
             → after ≡ given_by_step self.old.given step → load ≡ load_of step
             → EndsWith (Standing S.Store self.old) step (IsEnd S.Store self.new)) }
         ensures stays { OnErr result (Stays (Standing S.Store self.old)
             (Standing S.Store self.new)) }
-        ensures leaves { (step : StepValue) → rows.now ≡ kept_of_step self.old.given step
+        ensures leaves { (step : StepValue) → rows.now ≡ rows_of_step self.old.given step
             → LeavesOr (CrashLeaves S.Store self.old.journal) (Standing S.Store self.old) step
             (CrashLeaves S.Store self.new.journal) }
     {
@@ -81,7 +81,7 @@ impl<S: Alter> SessionJournal<S> {
 
     /// Puts one record of these rows in the place of all steps, after which so many ids were given, or
     /// none where there are no rows. Nothing of it can be taken off.
-    fn rewrite(&mut self, rows: &[Kept], given: u32) -> Result<(), Unkept>
+    fn rewrite(&mut self, rows: &[RowStep], given: u32) -> Result<(), Unkept>
         ensures replaced { (steps : List StepValue) → AreRecordOf rows.now given steps
             → OnOk result ((before : List StepValue) → Standing S.Store self.old before
             → Standing S.Store self.new steps) }

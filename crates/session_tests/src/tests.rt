@@ -14,12 +14,12 @@ mod limits;
 mod many;
 mod needed;
 mod random;
+mod ranges;
 mod running;
-mod stretches;
 mod texts;
 
 use h264_types::pictures::AuId;
-use session_builders::{Told, edit_of};
+use session_builders::{EditRow, edit_of};
 use stand_in_session::{Config, EditRefused, NoSuchUnit, Receipt, Runner, Session};
 use std::process::Abort;
 use unit_outcomes::{Outcome, ValidityFault};
@@ -105,7 +105,7 @@ fn shows(session: &Session, id: u32, shown: Shown) -> bool {
 /// An edit with what it is answered, or a unit with its outcome.
 #[derive(Clone, Copy)]
 enum Step {
-    Edit(Told, Answer),
+    Edit(EditRow, Answer),
     Unit(u32, Shown),
 }
 

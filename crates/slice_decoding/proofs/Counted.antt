@@ -7,7 +7,7 @@ use Rattle.h264_types.specs.declared.param_sets.sps.PicOrderCntType.TheVariants.
 use Rattle.h264_types.specs.declared.slice_headers.slice_headers.SliceHeader.{SliceHeader}
 use Rattle.slice_decoding.specs.declared.order_count.anchors.Anchor.{Anchor}
 use Rattle.h264_types.specs.declared.pictures.counts.Counts.{Counts}
-use Rattle.slice_decoding.specs.declared.order_count.fault.OrderRange.{OrderRange}
+use Rattle.slice_decoding.specs.declared.order_count.counting.OrderRange.{OrderRange}
 use Rattle.h264_types.specs.PicOrderCnt.{is_in_range, are_in_range}
 use Rattle.slice_decoding.specs.FrameNumbers.{frame_num_offset}
 use Rattle.slice_decoding.specs.TypeZero.{type_zero, pic_order_cnt_msb}

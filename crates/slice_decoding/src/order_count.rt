@@ -6,14 +6,11 @@
 
 mod anchors;
 mod counting;
-mod fault;
 mod frame_numbers;
 mod type_one;
 mod type_two;
 mod type_zero;
-mod wide_counts;
 
 pub use anchors::{Anchor, anchor_after};
-pub use counting::count;
-pub use fault::OrderRange;
+pub use counting::{OrderRange, count};
 pub use h264_types::pictures::{Counts, after_reset, resets};

@@ -7,7 +7,6 @@ mod contradictions;
 mod fault;
 mod freeing;
 mod marking;
-mod numbers;
 mod operations;
 mod sliding_window;
 

@@ -7,7 +7,7 @@ ghost use Rattle.slice_reading.specs.Numbers.{lower, gathered};
 ghost use Rattle.slice_reading.specs.Answers.{Answers, AnswersAs};
 ghost use Rattle.slice_reading.specs.Gathering.{gathered_after, lower_after};
 
-use crate::stop::Stop;
+use crate::unplanned::Unplanned;
 use std::alloc::{AllocError, Global};
 use std::marker::Model;
 use unit_outcomes::ValidityFault;
@@ -44,18 +44,18 @@ impl<T: Drop> Gathered<T> {
     /// Adds what one more slice gives.
     ///
     /// Where memory runs out, for this or by the slice, nothing is added.
-    pub fn add(&mut self, answer: Result<T, Stop>) -> Result<(), AllocError>
+    pub fn add(&mut self, answer: Result<T, Unplanned>) -> Result<(), AllocError>
         ensures added { (says : Result T ValidityFault) → Answers answer says
             → OnOk result (self.new ≡ gathered_after self.old says) }
         ensures kept { OnErr result (self.new ≡ self.old) }
     {
         match answer {
             Ok(item) => self.push(item),
-            Err(Stop::Fault(fault)) => {
+            Err(Unplanned::Fault(fault)) => {
                 self.add_fault(fault);
                 Ok(())
             }
-            Err(Stop::Memory) => Err(AllocError),
+            Err(Unplanned::Memory) => Err(AllocError),
         }
     }
 
@@ -85,12 +85,12 @@ impl<T: Drop> Gathered<T> {
     }
 
     /// All that the slices have, or the least fault.
-    pub fn finish(self) -> Result<Vec<T>, Stop>
+    pub fn finish(self) -> Result<Vec<T>, Unplanned>
         ensures { AnswersAs (λ items. items.items) result self }
     {
         match self.fault {
             None => Ok(self.items),
-            Some(fault) => Err(Stop::Fault(fault)),
+            Some(fault) => Err(Unplanned::Fault(fault)),
         }
     }
 }

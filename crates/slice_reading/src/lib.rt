@@ -7,17 +7,17 @@
 #![tactic(auto)]
 
 mod checks;
+mod entries;
 mod gathered;
-mod places;
 mod putting;
 mod sets;
 mod slices;
-mod stop;
 mod tables;
+mod unplanned;
 
 pub use checks::slice_fault;
 pub use gathered::Gathered;
 pub use putting::tables_with;
 pub use slices::{Slice, read_slices};
-pub use stop::Stop;
 pub use tables::Tables;
+pub use unplanned::Unplanned;

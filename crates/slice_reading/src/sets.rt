@@ -4,7 +4,7 @@
 ghost use Rattle.std.specs.Prelude.{◌≡◌, ◌↔◌, IfOk, IsTrue};
 ghost use Rattle.param_set_controls.specs.SetControls.{set_controls};
 
-use crate::places::{PpsPlace, SpsPlace};
+use crate::entries::{PpsEntry, SpsEntry};
 use h264_types::base::Shared;
 use h264_types::param_sets::{Pps, Sps};
 use param_set_controls::SetControls;
@@ -44,7 +44,7 @@ impl Model for Sets {
 
 impl Sets {
     /// The sets, with what they decide.
-    pub(crate) fn new(alloc: Global, sps: &SpsPlace, pps: &Shared<Pps>) -> Result<Sets, AllocError>
+    pub(crate) fn new(alloc: Global, sps: &SpsEntry, pps: &Shared<Pps>) -> Result<Sets, AllocError>
         ensures { IfOk result (λ sets. sets ≡ record { sps = sps.now; pps = pps.now }) }
     {
         Ok(Sets {
@@ -60,8 +60,8 @@ impl Sets {
     pub(crate) fn of(
         alloc: Global,
         last: Option<&Sets>,
-        sps: &SpsPlace,
-        pps: &PpsPlace,
+        sps: &SpsEntry,
+        pps: &PpsEntry,
     ) -> Result<Sets, AllocError>
         ensures { IfOk result (λ sets. sets ≡ record { sps = sps.now; pps = pps.now }) }
     {
@@ -73,7 +73,7 @@ impl Sets {
     }
 
     /// Whether they are these two.
-    pub(crate) fn are(&self, sps: &SpsPlace, pps: &Pps) -> bool
+    pub(crate) fn are(&self, sps: &SpsEntry, pps: &Pps) -> bool
         ensures { IsTrue result ↔ (self.now ≡ record { sps = sps.now; pps = pps.now }) }
     {
         self.pps.is_same(pps) && self.sps.is_same(sps.set())

@@ -11,8 +11,8 @@ ghost use Rattle.slice_reading.specs.Answers.{AnswersAs};
 
 use crate::gathered::Gathered;
 use crate::sets::Sets;
-use crate::stop::Stop;
 use crate::tables::Tables;
+use crate::unplanned::Unplanned;
 use access_unit::SharedNal;
 use bytes::Bytes;
 use h264_types::base::Shared;
@@ -92,7 +92,11 @@ impl Slice {
 ///
 /// A slice shares its sets and their controls with the tables, or with the slice before it, where
 /// those have the same.
-pub fn read_slices(alloc: Global, tables: &Tables, nals: &[SharedNal]) -> Result<Vec<Slice>, Stop>
+pub fn read_slices(
+    alloc: Global,
+    tables: &Tables,
+    nals: &[SharedNal],
+) -> Result<Vec<Slice>, Unplanned>
     ensures { AnswersAs (λ slices. slices.items) result
         (gathered (map (slice_at tables.now) nals.now)) }
 {

@@ -3,7 +3,7 @@
 ghost use Rattle.std.specs.Prelude.{◌≡◌, ◌<◌, ◌↔◌, None, Some, IfOk, IfSome, IsTrue, OnOk, length, option_map, replicate, set};
 ghost use Rattle.slice_reading.specs.ParameterSets.{no_sets, put, put_all, sps_under, pps_under};
 
-use crate::places::{Place, PpsPlace, SpsPlace};
+use crate::entries::{PpsEntry, SetEntry, SpsEntry};
 use crate::sets::Sets;
 use access_unit::ParameterSet;
 use h264_types::base::Shared;
@@ -21,8 +21,8 @@ const MOST_PPS: usize = 256;
 /// parameter sets and 256 picture parameter sets, each of them shared.
 #[derive(Debug)]
 pub struct Tables {
-    sps: Vec<Option<Shared<SpsPlace>>>,
-    pps: Vec<Option<Shared<PpsPlace>>>,
+    sps: Vec<Option<Shared<SpsEntry>>>,
+    pps: Vec<Option<Shared<PpsEntry>>>,
 }
 
 // By hand, so that whoever drops one is proved over one call.
@@ -50,8 +50,8 @@ impl Tables {
         ensures { IfOk result (λ tables. tables ≡ no_sets) }
     {
         Ok(Tables {
-            sps: empty_places(alloc, MOST_SPS)?,
-            pps: empty_places(alloc, MOST_PPS)?,
+            sps: empty_entries(alloc, MOST_SPS)?,
+            pps: empty_entries(alloc, MOST_PPS)?,
         })
     }
 
@@ -74,15 +74,15 @@ impl Tables {
             ParameterSet::Sps(sps) => {
                 let id = sps.seq_parameter_set_id.get();
                 if !has_sps(self.sps(id), sps) {
-                    let place = Shared::new(alloc, SpsPlace::new(alloc, sps)?)?;
-                    put_in(&mut self.sps, usize::from(id), place);
+                    let entry = Shared::new(alloc, SpsEntry::new(alloc, sps)?)?;
+                    put_in(&mut self.sps, usize::from(id), entry);
                 }
             }
             ParameterSet::Pps(pps) => {
                 let id = pps.pic_parameter_set_id;
                 if !has_pps(self.pps(id), pps) {
-                    let place = Shared::new(alloc, PpsPlace::new(pps)?)?;
-                    put_in(&mut self.pps, usize::from(id), place);
+                    let entry = Shared::new(alloc, PpsEntry::new(pps)?)?;
+                    put_in(&mut self.pps, usize::from(id), entry);
                 }
             }
         }
@@ -98,17 +98,17 @@ impl Tables {
             return Ok(());
         };
         let id = set.pic_parameter_set_id;
-        if let Some(place) = self.pairing(alloc, id)? {
-            put_in(&mut self.pps, usize::from(id), place);
+        if let Some(entry) = self.pairing(alloc, id)? {
+            put_in(&mut self.pps, usize::from(id), entry);
         }
         Ok(())
     }
 
     /// The place of the picture parameter set under an id as it is to be, where its set has to be
     /// paired anew.
-    fn pairing(&self, alloc: Global, id: u8) -> Result<Option<Shared<PpsPlace>>, AllocError>
-        ensures { IfOk result (λ paired. IfSome paired (λ place.
-            pps_under self.now id ≡ Some place)) }
+    fn pairing(&self, alloc: Global, id: u8) -> Result<Option<Shared<PpsEntry>>, AllocError>
+        ensures { IfOk result (λ paired. IfSome paired (λ entry.
+            pps_under self.now id ≡ Some entry)) }
     {
         let Some(pps) = self.pps(id) else {
             return Ok(None);
@@ -119,19 +119,19 @@ impl Tables {
         if are_sets(pps.sets(), sps, pps.set()) {
             return Ok(None);
         }
-        let place = PpsPlace::paired(alloc, pps.set(), sps)?;
-        Ok(Some(Shared::new(alloc, place)?))
+        let entry = PpsEntry::paired(alloc, pps.set(), sps)?;
+        Ok(Some(Shared::new(alloc, entry)?))
     }
 
     /// Whether both have the same sets under the same ids, by their contents.
     pub fn is_same(&self, other: &Tables) -> bool
         ensures { IsTrue result ↔ (self.now ≡ other.now) }
     {
-        same_places(&self.sps, &other.sps) && same_places(&self.pps, &other.pps)
+        same_entries(&self.sps, &other.sps) && same_entries(&self.pps, &other.pps)
     }
 
     /// The sequence parameter set under an id.
-    pub(crate) fn sps(&self, id: u8) -> Option<&Shared<SpsPlace>>
+    pub(crate) fn sps(&self, id: u8) -> Option<&Shared<SpsEntry>>
         requires { id < 32 }
         ensures { option_map (λ set. set.now) result ≡ sps_under self.now id }
     {
@@ -139,7 +139,7 @@ impl Tables {
     }
 
     /// The picture parameter set under an id.
-    pub(crate) fn pps(&self, id: u8) -> Option<&Shared<PpsPlace>>
+    pub(crate) fn pps(&self, id: u8) -> Option<&Shared<PpsEntry>>
         ensures { option_map (λ set. set.now) result ≡ pps_under self.now id }
     {
         self.pps[usize::from(id)].as_ref()
@@ -147,27 +147,27 @@ impl Tables {
 }
 
 /// Whether the place has this set.
-fn has_sps(place: Option<&Shared<SpsPlace>>, set: &Sps) -> bool
-    ensures { IsTrue result ↔ (option_map (λ place. place.now) place.entry ≡ Some set.now) }
+fn has_sps(entry: Option<&Shared<SpsEntry>>, set: &Sps) -> bool
+    ensures { IsTrue result ↔ (option_map (λ entry. entry.now) entry.entry ≡ Some set.now) }
 {
-    match place {
-        Some(place) => place.set().is_same(set),
+    match entry {
+        Some(entry) => entry.set().is_same(set),
         None => false,
     }
 }
 
 /// Whether the place has this set.
-fn has_pps(place: Option<&Shared<PpsPlace>>, set: &Pps) -> bool
-    ensures { IsTrue result ↔ (option_map (λ place. place.now) place.entry ≡ Some set.now) }
+fn has_pps(entry: Option<&Shared<PpsEntry>>, set: &Pps) -> bool
+    ensures { IsTrue result ↔ (option_map (λ entry. entry.now) entry.entry ≡ Some set.now) }
 {
-    match place {
-        Some(place) => place.set().is_same(set),
+    match entry {
+        Some(entry) => entry.set().is_same(set),
         None => false,
     }
 }
 
 /// Whether there are sets, and they are these two.
-fn are_sets(sets: &Option<Sets>, sps: &SpsPlace, pps: &Pps) -> bool
+fn are_sets(sets: &Option<Sets>, sps: &SpsEntry, pps: &Pps) -> bool
     ensures { IsTrue result ↔ (sets.now ≡ Some (record { sps = sps.now; pps = pps.now })) }
 {
     match sets {
@@ -177,14 +177,14 @@ fn are_sets(sets: &Option<Sets>, sps: &SpsPlace, pps: &Pps) -> bool
 }
 
 /// Whether as many places have the same sets.
-fn same_places<T: Place>(a: &[Option<Shared<T>>], b: &[Option<Shared<T>>]) -> bool
+fn same_entries<T: SetEntry>(a: &[Option<Shared<T>>], b: &[Option<Shared<T>>]) -> bool
     ensures { IsTrue result ↔ (a.now ≡ b.now) }
 {
     if a.len() != b.len() {
         return false;
     }
-    for (place, other) in a.iter().zip(b) {
-        if !same_place(place, other) {
+    for (entry, other) in a.iter().zip(b) {
+        if !same_entry(entry, other) {
             return false;
         }
     }
@@ -192,7 +192,7 @@ fn same_places<T: Place>(a: &[Option<Shared<T>>], b: &[Option<Shared<T>>]) -> bo
 }
 
 /// Whether both places have the same set, or none.
-fn same_place<T: Place>(a: &Option<Shared<T>>, b: &Option<Shared<T>>) -> bool
+fn same_entry<T: SetEntry>(a: &Option<Shared<T>>, b: &Option<Shared<T>>) -> bool
     ensures { IsTrue result ↔ (a.now ≡ b.now) }
 {
     match (a, b) {
@@ -203,45 +203,45 @@ fn same_place<T: Place>(a: &Option<Shared<T>>, b: &Option<Shared<T>>) -> bool
 }
 
 /// Puts a set into a place.
-fn put_in<T: Drop>(places: &mut Vec<Option<Shared<T>>>, id: usize, value: Shared<T>)
-    requires { id < length places.old.items }
-    ensures { places.new.items ≡ set places.old.items id (Some value) }
+fn put_in<T: Drop>(entries: &mut Vec<Option<Shared<T>>>, id: usize, value: Shared<T>)
+    requires { id < length entries.old.items }
+    ensures { entries.new.items ≡ set entries.old.items id (Some value) }
 {
-    places[id] = Some(value);
+    entries[id] = Some(value);
 }
 
 /// This many places with no set.
-fn empty_places<T>(alloc: Global, count: usize) -> Result<Vec<Option<T>>, AllocError>
+fn empty_entries<T>(alloc: Global, count: usize) -> Result<Vec<Option<T>>, AllocError>
 where
     T: Drop,
-    ensures { IfOk result (λ places. places.items ≡ replicate count None) }
+    ensures { IfOk result (λ entries. entries.items ≡ replicate count None) }
 {
-    let mut places = Vec::with_capacity(alloc, count)?;
+    let mut entries = Vec::with_capacity(alloc, count)?;
     for _ in 0..count {
-        places.push(None)?;
+        entries.push(None)?;
     }
-    Ok(places)
+    Ok(entries)
 }
 
 /// The same places, their sets shared.
 fn copied<T: Drop>(
     alloc: Global,
-    places: &[Option<Shared<T>>],
+    entries: &[Option<Shared<T>>],
 ) -> Result<Vec<Option<Shared<T>>>, AllocError>
-    ensures { IfOk result (λ copy. copy.items ≡ places.now) }
+    ensures { IfOk result (λ copy. copy.items ≡ entries.now) }
 {
-    let mut copy = Vec::with_capacity(alloc, places.len())?;
-    for place in places {
-        copy.push(shared(place)?)?;
+    let mut copy = Vec::with_capacity(alloc, entries.len())?;
+    for entry in entries {
+        copy.push(shared(entry)?)?;
     }
     Ok(copy)
 }
 
 /// The same set with one owner more.
-fn shared<T: Drop>(place: &Option<Shared<T>>) -> Result<Option<Shared<T>>, AllocError>
-    ensures { IfOk result (λ copy. copy ≡ place.now) }
+fn shared<T: Drop>(entry: &Option<Shared<T>>) -> Result<Option<Shared<T>>, AllocError>
+    ensures { IfOk result (λ copy. copy ≡ entry.now) }
 {
-    match place {
+    match entry {
         Some(set) => Ok(Some(set.clone()?)),
         None => Ok(None),
     }

@@ -1,6 +1,6 @@
 -- Where no CAPTURE buffer is for a slice.
 use Rattle.std.proofs.Common.{◌≡◌, ◌==◌, ℕ, Bool, true, false, Option, None, Some, is_some, refl, if◌then◌else◌}
-use Rattle.stand_in_device.specs.declared.m2m_queues.work.Target.{Target}
+use Rattle.stand_in_device.specs.declared.m2m_queues.slice_decoder.Target.{Target}
 use Rattle.stand_in_device.specs.declared.m2m_queues.buffers.Buffer.{Buffer}
 use Rattle.stand_in_device.specs.Runs.{another, begin, target_by}
 

@@ -5,7 +5,7 @@ use Rattle.stand_in_device.specs.Machine.{Machine, empty_request, request_of, wi
 use Rattle.stand_in_device.specs.Queuing.{output_of, queue_output}
 use Rattle.stand_in_device.specs.Requests.{queue_request, set_controls}
 use Rattle.stand_in_device.specs.declared.m2m_queues.requests.Output.{Output}
-use Rattle.stand_in_device.specs.declared.m2m_queues.requests.Request.{Request as QueueRequest}
+use Rattle.stand_in_device.specs.declared.m2m_queues.requests.QueueRequest.{QueueRequest}
 use Rattle.stand_in_device.specs.declared.m2m_queues.requests.RequestState.TheVariants.{Idle}
 use Rattle.h264_controls.specs.declared.request.Request.{Request}
 use Rattle.stand_in_device.specs.declared.slice_digest.SliceControls.{SliceControls}
@@ -57,7 +57,7 @@ bound q new id controls output b step =
       outputs = ap (λ (m : Machine SliceControls). m.outputs) (sym is);
     }
 
-waits : (q new : Machine SliceControls) (id : ℕ) (slice : Request) → IsBound q id (record { work = slice.work; references = slice.references }) (output_of 0 slice.work.bytes slice.timestamp slice.hold) → queue_request q id ≡ Ok new → IsWaiting new id slice
+waits : (q new : Machine SliceControls) (id : ℕ) (slice : Request) → IsBound q id (record { body = slice.body; references = slice.references }) (output_of 0 slice.body.bytes slice.timestamp slice.hold) → queue_request q id ≡ Ok new → IsWaiting new id slice
 waits q new id slice b step =
     let before : QueueRequest SliceControls = record (waiting slice) { state = Idle } in
     let is : with_request (record q { order = id ∷ [] }) id (Some (waiting slice)) ≡ new = ok_is _ _ (rw (b.there, b.order) at step) in
@@ -68,6 +68,6 @@ waits q new id slice b step =
     }
 
 -- a slice that goes through three calls waits for its turn
-pub queued_up : (q first second new : Machine SliceControls) (id : ℕ) (slice : Request) → IsBetween q id → set_controls q id (record { work = slice.work; references = slice.references }) ≡ Ok first → queue_output first 0 id (output_of 0 slice.work.bytes slice.timestamp slice.hold) ≡ Ok second → queue_request second id ≡ Ok new → IsWaiting new id slice
+pub queued_up : (q first second new : Machine SliceControls) (id : ℕ) (slice : Request) → IsBetween q id → set_controls q id (record { body = slice.body; references = slice.references }) ≡ Ok first → queue_output first 0 id (output_of 0 slice.body.bytes slice.timestamp slice.hold) ≡ Ok second → queue_request second id ≡ Ok new → IsWaiting new id slice
 queued_up q first second new id slice b set out queue =
     waits second new id slice (bound first second id _ _ (controlled q first id _ b set) out) queue

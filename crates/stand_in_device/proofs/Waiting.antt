@@ -6,10 +6,10 @@ use Rattle.std.proofs.lemmas.Bool.Decides.{nat_tests}
 use Rattle.std.proofs.lemmas.List.{get_or_past}
 use Rattle.std.proofs.lemmas.List.Sums.{sum_by-set, sum_by-cons}
 use Rattle.slab.specs.Slab.{Slab, get, with_value}
-use Rattle.stand_in_device.specs.declared.m2m_queues.requests.Request.{Request}
+use Rattle.stand_in_device.specs.declared.m2m_queues.requests.QueueRequest.{QueueRequest}
 use Rattle.stand_in_device.specs.declared.m2m_queues.requests.RequestState.TheVariants.{Complete}
 use Rattle.stand_in_device.specs.Machine.{empty_request, has_controls, has_output, is_queued, is_queued_state}
-use Rattle.stand_in_device.specs.Kept.{IsKept}
+use Rattle.stand_in_device.specs.Invariants.{IsSound}
 
 -- how often an id stands in the order
 abbrev pub times : ℕ → List ℕ → ℕ
@@ -59,12 +59,12 @@ at_most_once true n h = omega arith
 at_most_once false n h = omega arith
 
 -- a queued request is there
-there_where_queued : {C : Type 0} (request : Option (Request C)) (n : ℕ) → n ≡ cond (is_queued request) 1 0 → n ≤ cond (is_some request) 1 0
+there_where_queued : {C : Type 0} (request : Option (QueueRequest C)) (n : ℕ) → n ≡ cond (is_queued request) 1 0 → n ≤ cond (is_some request) 1 0
 there_where_queued None n h = omega arith
 there_where_queued (Some request) n h = at_most_once (is_queued_state request.state) n h
 
 -- an idle request may be put into the order
-may_wait : {C : Type 0} (requests : Slab (Request C)) (order : List ℕ) (id other : ℕ) (request : Request C) → IsKept requests order → get requests id ≡ Some request → is_queued (Some request) ≡ false → (other ≡ id) ⊎ (other ≢ id) → times other (id ∷ order) ≤ cond (is_some (get requests other)) 1 0
+may_wait : {C : Type 0} (requests : Slab (QueueRequest C)) (order : List ℕ) (id other : ℕ) (request : QueueRequest C) → IsSound requests order → get requests id ≡ Some request → is_queued (Some request) ≡ false → (other ≡ id) ⊎ (other ≢ id) → times other (id ∷ order) ≤ cond (is_some (get requests other)) 1 0
 may_wait requests order id other request kept found idle (inl same) =
     let none : times id order ≡ 0 = rw (kept.each id, found, idle) refl in
     let seen : 1 ≤ cond (is_some (get requests id)) 1 0 = rw found (omega arith) in
@@ -74,7 +74,7 @@ may_wait requests order id other request kept found idle (inr apart) =
     rw (times-other id other order apart) (there_where_queued (get requests other) (times other order) (kept.each other))
 
 -- with an idle request there is room in the order of the queued ones
-pub room_for_another : {C : Type 0} (requests : Slab (Request C)) (order : List ℕ) (id : ℕ) (request : Request C) → IsKept requests order → get requests id ≡ Some request → is_queued (Some request) ≡ false → length order < 64
+pub room_for_another : {C : Type 0} (requests : Slab (QueueRequest C)) (order : List ℕ) (id : ℕ) (request : QueueRequest C) → IsSound requests order → get requests id ≡ Some request → is_queued (Some request) ≡ false → length order < 64
 room_for_another requests order id request kept found idle =
     let few = few_waiting requests.slots (id ∷ order) (λ other. may_wait requests order id other request kept found idle (cases_eq other id)) in
     omega (arith, few, kept.few)
@@ -89,7 +89,7 @@ same_count slots id was after found =
     omega (arith, counted)
 
 -- the first request of the order is complete: it stands no more in the order, and the others as often as before
-each_after_first : {C : Type 0} (requests : Slab (Request C)) (order : List ℕ) (id other : ℕ) (request : Request C) → IsKept requests (id ∷ order) → get requests id ≡ Some request → (other ≡ id) ⊎ (other ≢ id) → times other order ≡ cond (is_queued (get (with_value requests id (empty_request Complete)) other)) 1 0
+each_after_first : {C : Type 0} (requests : Slab (QueueRequest C)) (order : List ℕ) (id other : ℕ) (request : QueueRequest C) → IsSound requests (id ∷ order) → get requests id ≡ Some request → (other ≡ id) ⊎ (other ≢ id) → times other order ≡ cond (is_queued (get (with_value requests id (empty_request Complete)) other)) 1 0
 each_after_first {C} requests order id other request kept found (inl same) =
     let inside : id < length requests.slots = within requests.slots id (rw found refl) (cases_lt id (length requests.slots)) in
     let once = at_most_once (is_queued (get requests id)) (times id (id ∷ order)) (kept.each id) in
@@ -100,7 +100,7 @@ each_after_first requests order id other request kept found (inr apart) =
     rw (get_or-set_other, ← times-other id other order apart) (kept.each other)
 
 -- each queued request has controls and a buffer still
-whole_after_first : {C : Type 0} (requests : Slab (Request C)) (order : List ℕ) (id other : ℕ) (request : Request C) → IsKept requests (id ∷ order) → get requests id ≡ Some request → (other ≡ id) ⊎ (other ≢ id) → is_queued (get (with_value requests id (empty_request Complete)) other) ≡ true → (has_output (get (with_value requests id (empty_request Complete)) other) && has_controls (get (with_value requests id (empty_request Complete)) other)) ≡ true
+whole_after_first : {C : Type 0} (requests : Slab (QueueRequest C)) (order : List ℕ) (id other : ℕ) (request : QueueRequest C) → IsSound requests (id ∷ order) → get requests id ≡ Some request → (other ≡ id) ⊎ (other ≢ id) → is_queued (get (with_value requests id (empty_request Complete)) other) ≡ true → (has_output (get (with_value requests id (empty_request Complete)) other) && has_controls (get (with_value requests id (empty_request Complete)) other)) ≡ true
 whole_after_first {C} requests order id other request kept found (inl same) queued =
     let inside : id < length requests.slots = within requests.slots id (rw found refl) (cases_lt id (length requests.slots)) in
     let here : get (with_value requests id (empty_request {C = C} Complete)) id ≡ Some (empty_request Complete) = get_or-set_same requests.slots id (Some (empty_request Complete)) None inside in
@@ -110,11 +110,11 @@ whole_after_first requests order id other request kept found (inr apart) queued 
     rw get_or-set_other (kept.whole other (rw get_or-set_other at queued))
 
 -- the requests once the first of the order is complete, and the order without it, are kept
-pub kept_after_first : {C : Type 0} (requests : Slab (Request C)) (order : List ℕ) (id : ℕ) (request : Request C) → IsKept requests order → slice_get order 0 ≡ Some id → get requests id ≡ Some request → IsKept (with_value requests id (empty_request Complete)) (remove order 0)
+pub kept_after_first : {C : Type 0} (requests : Slab (QueueRequest C)) (order : List ℕ) (id : ℕ) (request : QueueRequest C) → IsSound requests order → slice_get order 0 ≡ Some id → get requests id ≡ Some request → IsSound (with_value requests id (empty_request Complete)) (remove order 0)
 kept_after_first requests [] id request kept first found = cc
 kept_after_first requests (x ∷ order) id request kept first found =
     let is_first : x ≡ id = cc in
-    let kept_so = subst (λ n. IsKept requests (n ∷ order)) is_first kept in
+    let kept_so = subst (λ n. IsSound requests (n ∷ order)) is_first kept in
     record {
       few = omega (arith, same_count requests.slots id request (empty_request Complete) found, kept.few);
       room = kept.room;

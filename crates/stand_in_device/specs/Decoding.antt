@@ -7,7 +7,7 @@ use Rattle.stand_in_device.specs.Buffers.{done, free, held, queued}
 use Rattle.stand_in_device.specs.Queuing.{output_of}
 use Rattle.stand_in_device.specs.declared.m2m_queues.buffers.Buffer.{Buffer}
 use Rattle.stand_in_device.specs.declared.m2m_queues.requests.RequestState.TheVariants.{Complete, Idle, Queued}
-use Rattle.stand_in_device.specs.declared.m2m_queues.requests.Request.{Request as QueueRequest}
+use Rattle.stand_in_device.specs.declared.m2m_queues.requests.QueueRequest.{QueueRequest}
 use Rattle.h264_controls.specs.declared.request.Request.{Request}
 use Rattle.stand_in_device.specs.declared.slice_digest.SliceControls.{SliceControls}
 use Rattle.stand_in_device.specs.declared.slice_digest.SliceDigest.{SliceDigest}
@@ -22,8 +22,8 @@ pub record IsBetween (queues : Machine SliceControls) (id : ℕ) : Type 0 where
 abbrev pub waiting : Request → QueueRequest SliceControls
 waiting slice = record {
   state = Queued;
-  controls = Some (record { work = slice.work; references = slice.references });
-  output = Some (output_of 0 slice.work.bytes slice.timestamp slice.hold);
+  controls = Some (record { body = slice.body; references = slice.references });
+  output = Some (output_of 0 slice.body.bytes slice.timestamp slice.hold);
 }
 
 -- the request of this id waits for its turn with this slice, and no other does
@@ -40,9 +40,9 @@ pub record IsRun (queues : Machine SliceControls) (id : ℕ) (slice : Request) :
 
 -- of the frame with this timestamp nothing was decoded, or this was, and its CAPTURE buffer is held for more
 abbrev pub IsDecoded : List Buffer → ℕ → SliceDigest → List ℕ → Type 0
-IsDecoded captures timestamp work m =
+IsDecoded captures timestamp slice_digest m =
     ((captures ≡ queued 0 0 ∷ []) × (m ≡ []))
-    ⊎ ((captures ≡ held 0 timestamp ∷ []) × Holds256 work.hasher m)
+    ⊎ ((captures ≡ held 0 timestamp ∷ []) × Holds256 slice_digest.hasher m)
 
 -- the CAPTURE buffer can take a slice of the frame with this timestamp
 abbrev pub CanTake : List Buffer → ℕ → Type 0

@@ -1,6 +1,6 @@
 -- What the work on a slice is given.
 use Rattle.std.specs.Prelude.{ℕ, List}
-use Rattle.stand_in_device.specs.declared.m2m_queues.work.Target.{Target}
+use Rattle.stand_in_device.specs.declared.m2m_queues.slice_decoder.Target.{Target}
 
 -- the controls of a slice, its bytes, the timestamp of its frame, and where it goes
 pub record Given (C : Type 0) : Type 0 where

@@ -1,7 +1,7 @@
 pub mod FaultNumbers
 pub mod Buffers
 pub mod Machine
-pub mod Kept
+pub mod Invariants
 pub mod Steps
 pub mod Requests
 pub mod Queuing
@@ -13,5 +13,5 @@ pub mod Pictured
 pub mod Inputs
 pub mod Jobs
 pub mod Fronts
-pub mod SliceWorks
+pub mod SliceDigests
 pub mod Decoding

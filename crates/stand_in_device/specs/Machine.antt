@@ -4,13 +4,13 @@ use Rattle.std.specs.Prelude.{ℕ, Bool, true, false, List, [], Option, None, So
 use Rattle.std.specs.Option.{option_map}
 use Rattle.stand_in_device.specs.declared.m2m_queues.requests.RequestState.{RequestState}
 use Rattle.stand_in_device.specs.declared.m2m_queues.requests.RequestState.TheVariants.{Idle, Queued}
-use Rattle.stand_in_device.specs.declared.m2m_queues.requests.Request.{Request}
+use Rattle.stand_in_device.specs.declared.m2m_queues.requests.QueueRequest.{QueueRequest}
 use Rattle.stand_in_device.specs.declared.m2m_queues.buffers.Buffer.{Buffer}
 use Rattle.stand_in_device.specs.Buffers.{free_buffers}
 
 -- the requests by their ids, the ids of the queued ones with the oldest first, and the buffers of both queues
 pub record Machine (C : Type 0) : Type 0 where
-  pub requests : List (Option (Request C))
+  pub requests : List (Option (QueueRequest C))
   pub order : List ℕ
   pub outputs : List Buffer
   pub captures : List Buffer
@@ -27,31 +27,31 @@ is_queued_state _ = false
 
 module _ {C : Type 0} where
   -- how far a request is, if there is one
-  abbrev pub state_of : Option (Request C) → Option RequestState
+  abbrev pub state_of : Option (QueueRequest C) → Option RequestState
   state_of request = option_map (λ there. there.state) request
 
   -- there is a request, and it is idle
-  abbrev pub is_idle : Option (Request C) → Bool
+  abbrev pub is_idle : Option (QueueRequest C) → Bool
   is_idle None = false
   is_idle (Some request) = is_idle_state request.state
 
   -- there is a request, and it is queued
-  abbrev pub is_queued : Option (Request C) → Bool
+  abbrev pub is_queued : Option (QueueRequest C) → Bool
   is_queued None = false
   is_queued (Some request) = is_queued_state request.state
 
   -- there is a request, and an OUTPUT buffer is bound to it
-  abbrev pub has_output : Option (Request C) → Bool
+  abbrev pub has_output : Option (QueueRequest C) → Bool
   has_output None = false
   has_output (Some request) = is_some request.output
 
   -- there is a request, and controls are bound to it
-  abbrev pub has_controls : Option (Request C) → Bool
+  abbrev pub has_controls : Option (QueueRequest C) → Bool
   has_controls None = false
   has_controls (Some request) = is_some request.controls
 
   -- the request of an id
-  abbrev pub request_of : Machine C → ℕ → Option (Request C)
+  abbrev pub request_of : Machine C → ℕ → Option (QueueRequest C)
   request_of q id = slice_index_or q.requests id None
 
   -- how many requests there are
@@ -63,13 +63,13 @@ module _ {C : Type 0} where
   opened outputs captures = record { requests = []; order = []; outputs = free_buffers outputs; captures = free_buffers captures }
 
   -- the request of this id is now as given, or is gone
-  abbrev pub with_request : Machine C → ℕ → Option (Request C) → Machine C
+  abbrev pub with_request : Machine C → ℕ → Option (QueueRequest C) → Machine C
   with_request q id request = record q { requests = slice_set q.requests id request }
 
   -- the request of this id is changed
-  abbrev pub changed : Machine C → ℕ → (Request C → Request C) → Machine C
+  abbrev pub changed : Machine C → ℕ → (QueueRequest C → QueueRequest C) → Machine C
   changed q id change = with_request q id (option_map change (request_of q id))
 
   -- a request to which nothing is bound
-  abbrev pub empty_request : RequestState → Request C
+  abbrev pub empty_request : RequestState → QueueRequest C
   empty_request state = record { state = state; controls = None; output = None }

@@ -6,33 +6,33 @@ use Rattle.std.specs.Prelude.{slice_get, option_map, option_and_then}
 use Rattle.std.specs.List.{flat_map}
 use Rattle.sha2.specs.Sha256.{sha256}
 use Rattle.h264_controls.specs.declared.request.Request.{Request}
-use Rattle.h264_controls.specs.declared.work.Work.{Work}
+use Rattle.h264_controls.specs.declared.request.RequestBody.{RequestBody}
 use Rattle.h264_controls.specs.DigestForm.{digest_form}
 use Rattle.decode_jobs.specs.declared.input.Reference.{Reference}
 use Rattle.stand_in_device.specs.declared.picture.Picture.{Picture}
 use Rattle.decode_jobs.specs.Inputs.{InputValue, entries_of, picture_of_frame}
 use Rattle.stand_in_device.specs.Pictures.{picture_bytes, entry_bytes, size_bytes, slice_record, record_of, picture_of}
-use Rattle.decode_jobs.specs.Keys.{Key, works_of, unit_named, named_by, named_by_all, tree_with}
-use Rattle.stand_in_device.specs.KeyPictures.{work_record, work_records, picture_after, picture_of_key}
+use Rattle.decode_jobs.specs.Keys.{Key, bodies_of, unit_named, named_by, named_by_all, tree_with}
+use Rattle.stand_in_device.specs.KeyPictures.{body_record, body_records, picture_after, picture_of_key}
 use Rattle.decode_jobs.specs.Made.{AreOfEntries, IsClosed, pictures_named}
 
--- the picture of works with these pictures at their entries
-abbrev digested : List Work → List (Option Picture) → Picture
-digested works pictures = record { digest = sha256 (work_records works pictures) }
+-- the picture of bodies with these pictures at their entries
+abbrev digested : List RequestBody → List (Option Picture) → Picture
+digested bodies pictures = record { digest = sha256 (body_records bodies pictures) }
 
 -- the pictures of keys
 abbrev shown : List (Option Key) → List (Option Picture)
 shown keys = map (option_map picture_of_key) keys
 
-after_entries : (works : List Work) (entries : List (Option Key)) (pictures : List (Option Picture))
-    → picture_after pictures (tree_with works entries) ≡ digested works (pictures ++ shown entries)
-after_entries works [] pictures = ap (digested works) (sym (append-nil pictures))
-after_entries works (None ∷ entries) pictures =
-    after_entries works entries (pictures ++ None ∷ [])
-    ∙ ap (digested works) (append_assoc pictures (None ∷ []) (shown entries))
-after_entries works (Some key ∷ entries) pictures =
-    after_entries works entries (pictures ++ Some (picture_of_key key) ∷ [])
-    ∙ ap (digested works) (append_assoc pictures (Some (picture_of_key key) ∷ []) (shown entries))
+after_entries : (bodies : List RequestBody) (entries : List (Option Key)) (pictures : List (Option Picture))
+    → picture_after pictures (tree_with bodies entries) ≡ digested bodies (pictures ++ shown entries)
+after_entries bodies [] pictures = ap (digested bodies) (sym (append-nil pictures))
+after_entries bodies (None ∷ entries) pictures =
+    after_entries bodies entries (pictures ++ None ∷ [])
+    ∙ ap (digested bodies) (append_assoc pictures (None ∷ []) (shown entries))
+after_entries bodies (Some key ∷ entries) pictures =
+    after_entries bodies entries (pictures ++ Some (picture_of_key key) ∷ [])
+    ∙ ap (digested bodies) (append_assoc pictures (Some (picture_of_key key) ∷ []) (shown entries))
 
 list_bytes : (references : List (Reference Picture)) (units : List ℕ) (entries : List (Option ℕ))
     → flat_map picture_bytes (map (picture_of_frame references) (map (unit_named units) entries))
@@ -45,30 +45,30 @@ list_bytes references units (Some index ∷ entries) =
     (list_bytes references units entries)
 
 record_same : (references : List (Reference Picture)) (request : Request)
-    → work_record request.work (map (picture_of_frame references) (named_by request)) ≡ record_of references request
+    → body_record request.body (map (picture_of_frame references) (named_by request)) ≡ record_of references request
 unfolding slice_record
 record_same references request =
-    ap (λ bytes. digest_form request.work.controls ++ size_bytes request.work.bytes ++ request.work.bytes ++ bytes)
-    (list_bytes references request.references (entries_of request.work.controls))
+    ap (λ bytes. digest_form request.body.controls ++ size_bytes request.body.bytes ++ request.body.bytes ++ bytes)
+    (list_bytes references request.references (entries_of request.body.controls))
 
-cut_front : (work : Work) (works : List Work) (n : ℕ) (front rest : List (Option Picture)) → n ≡ length front
-    → work_record work (take n (front ++ rest)) ++ work_records works (drop n (front ++ rest))
-    ≡ work_record work front ++ work_records works rest
-cut_front work works n front rest e =
+cut_front : (body : RequestBody) (bodies : List RequestBody) (n : ℕ) (front rest : List (Option Picture)) → n ≡ length front
+    → body_record body (take n (front ++ rest)) ++ body_records bodies (drop n (front ++ rest))
+    ≡ body_record body front ++ body_records bodies rest
+cut_front body bodies n front rest e =
     rw (e, take-append_seam front rest, drop-append_seam front rest) refl
 
 entries_many : (references : List (Reference Picture)) (request : Request)
-    → length (entries_of request.work.controls) ≡ length (map (picture_of_frame references) (named_by request))
+    → length (entries_of request.body.controls) ≡ length (map (picture_of_frame references) (named_by request))
 entries_many references request =
-    rw (length-map (named_by request) (picture_of_frame references), length-map (entries_of request.work.controls) (unit_named request.references)) refl
+    rw (length-map (named_by request) (picture_of_frame references), length-map (entries_of request.body.controls) (unit_named request.references)) refl
 
 records_same : (references : List (Reference Picture)) (requests : List Request)
-    → work_records (works_of requests) (map (picture_of_frame references) (named_by_all requests))
+    → body_records (bodies_of requests) (map (picture_of_frame references) (named_by_all requests))
     ≡ flat_map (record_of references) requests
 records_same references [] = refl
 records_same references (request ∷ requests) =
     rw (map-append (picture_of_frame references) (named_by request) (named_by_all requests))
-    (cut_front request.work (works_of requests) (length (entries_of request.work.controls))
+    (cut_front request.body (bodies_of requests) (length (entries_of request.body.controls))
     (map (picture_of_frame references) (named_by request)) (map (picture_of_frame references) (named_by_all requests))
     (entries_many references request)
     ∙ rw (record_same references request, records_same references requests) refl)
@@ -89,6 +89,6 @@ pub picture_closed : IsClosed (λ input picture. picture ≡ picture_of input) (
 unfolding picture_of
 picture_closed keys input picture are decoded =
     decoded
-    ∙ sym (after_entries (works_of input.requests) keys []
-    ∙ ap (digested (works_of input.requests)) (sym (are_shown (pictures_named input) keys are))
+    ∙ sym (after_entries (bodies_of input.requests) keys []
+    ∙ ap (digested (bodies_of input.requests)) (sym (are_shown (pictures_named input) keys are))
     ∙ ap (λ bytes. record { digest = sha256 bytes }) (records_same input.references input.requests))

@@ -35,7 +35,7 @@ slice_record references controls units bytes =
 -- the record of a request
 abbrev pub record_of : List (Reference Picture) → Request → List ℕ
 record_of references request =
-    slice_record references request.work.controls request.references request.work.bytes
+    slice_record references request.body.controls request.references request.body.bytes
 
 -- the picture: the digest of the records, one after the other
 unfoldable pub picture_of : InputValue Picture → Picture

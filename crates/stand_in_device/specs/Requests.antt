@@ -2,7 +2,7 @@
 use Rattle.std.specs.Prelude.{◌≡◌, ◌≢◌, ◌+◌, ◌++◌, ◌∷◌, ℕ, ◌&&◌, not, List, [], Option, None, Some, is_none}
 use Rattle.stand_in_device.specs.declared.m2m_queues.fault.QueueFault.TheVariants.{Busy, NoEntry}
 use Rattle.stand_in_device.specs.declared.m2m_queues.requests.RequestState.TheVariants.{Idle, Queued}
-use Rattle.stand_in_device.specs.declared.m2m_queues.requests.Request.{Request}
+use Rattle.stand_in_device.specs.declared.m2m_queues.requests.QueueRequest.{QueueRequest}
 use Rattle.stand_in_device.specs.declared.m2m_queues.requests.Output.{Output}
 use Rattle.stand_in_device.specs.declared.m2m_queues.buffers.Buffer.{Buffer}
 use Rattle.stand_in_device.specs.Buffers.{free, turned}
@@ -19,7 +19,7 @@ module _ {C : Type 0} where
     pub rest : new ≡ record old { requests = new.requests }
 
   -- the OUTPUT buffers once the one that is bound to this request is with the caller
-  abbrev pub given_back : List Buffer → Option (Request C) → List Buffer
+  abbrev pub given_back : List Buffer → Option (QueueRequest C) → List Buffer
   given_back outputs None = outputs
   given_back outputs (Some request) = given_back_of request.output
     where
@@ -28,7 +28,7 @@ module _ {C : Type 0} where
       given_back_of (Some output) = turned outputs (free output.index)
 
   -- the request of the id gives its OUTPUT buffer back, and is then as given, or is gone
-  abbrev pub let_go : Machine C → ℕ → Option (Request C) → Step C
+  abbrev pub let_go : Machine C → ℕ → Option (QueueRequest C) → Step C
   let_go q id after =
       unless
       ((is_none (request_of q id), NoEntry) ∷ (is_queued (request_of q id), Busy) ∷ [])

@@ -4,13 +4,13 @@ use Rattle.std.specs.Prelude.{◌≡◌, ◌==◌, ◌⊎◌, ℕ, true, false, 
 use Rattle.stand_in_device.specs.declared.m2m_queues.fault.QueueFault.{QueueFault}
 use Rattle.stand_in_device.specs.declared.m2m_queues.fault.QueueFault.TheVariants.{Again, Memory}
 use Rattle.stand_in_device.specs.declared.m2m_queues.requests.RequestState.TheVariants.{Complete}
-use Rattle.stand_in_device.specs.declared.m2m_queues.requests.Request.{Request}
+use Rattle.stand_in_device.specs.declared.m2m_queues.requests.QueueRequest.{QueueRequest}
 use Rattle.stand_in_device.specs.declared.m2m_queues.requests.Output.{Output}
 use Rattle.stand_in_device.specs.declared.m2m_queues.buffers.BufferState.TheVariants.{Queued, Held}
 use Rattle.stand_in_device.specs.declared.m2m_queues.buffers.Buffer.{Buffer}
-use Rattle.stand_in_device.specs.declared.m2m_queues.work.Target.{Target}
-use Rattle.stand_in_device.specs.declared.m2m_queues.work.RunOne.{RunOne}
-use Rattle.stand_in_device.specs.declared.m2m_queues.work.RunOne.TheVariants.{Ran, Released}
+use Rattle.stand_in_device.specs.declared.m2m_queues.slice_decoder.Target.{Target}
+use Rattle.stand_in_device.specs.declared.m2m_queues.slice_decoder.RunOne.{RunOne}
+use Rattle.stand_in_device.specs.declared.m2m_queues.slice_decoder.RunOne.TheVariants.{Ran, Released}
 use Rattle.stand_in_device.specs.Buffers.{done, held, turned, oldest}
 use Rattle.stand_in_device.specs.Given.{Given, given}
 use Rattle.stand_in_device.specs.Machine.{Machine, request_of, empty_request}
@@ -57,7 +57,7 @@ written target output =
 module _ {C : Type 0} where
   -- the oldest queued request, with its controls and its OUTPUT buffer
   pub record IsNext (q : Machine C) (id : ℕ) (controls : C) (output : Output) : Type 0 where
-    pub request : Request C
+    pub request : QueueRequest C
     pub first : slice_get q.order 0 ≡ Some id
     pub there : request_of q id ≡ Some request
     pub controlled : request.controls ≡ Some controls
@@ -73,7 +73,7 @@ module _ {C : Type 0} where
   }
 
 -- from the state old a run leaves the state new, and what does the work goes from before to after
-module _ {C S : Type 0} (works : S → Given C → S → Type 0) (old new : Machine C) (before after : S) where
+module _ {C S : Type 0} (decodes : S → Given C → S → Type 0) (old new : Machine C) (before after : S) where
   -- the next slice was worked on, once and with the right things
   pub record HasRun : Type 0 where
     pub id : ℕ
@@ -82,7 +82,7 @@ module _ {C S : Type 0} (works : S → Given C → S → Type 0) (old new : Mach
     pub target : Target
     pub next : IsNext old id controls output
     pub placed : target_of old.captures output.timestamp ≡ Some target
-    pub work : works before (given controls output.bytes output.timestamp target) after
+    pub decoded : decodes before (given controls output.bytes output.timestamp target) after
     pub left : new ≡ after_run old id output target
 
   -- no CAPTURE buffer is queued for the next slice, and one that was held for another frame is done now

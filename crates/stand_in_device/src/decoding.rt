@@ -54,21 +54,21 @@ impl Decoding {
     pub(crate) fn decode_slice(
         self,
         slice: &Request,
-        work: &mut SliceDigest,
+        slice_digest: &mut SliceDigest,
     ) -> Result<Decoding, AllocError>
         requires { CanTake self slice.now.timestamp }
         ensures captures { IfOk result (λ after. after ≡ written_by slice.now ∷ []) }
         ensures digest { IfOk result (λ after. (m : List ℕ)
-            → IsDecoded self slice.now.timestamp work.old m
-            → Holds256 work.new.hasher (m ++ record_of work.old.frames.items slice.now)) }
-        ensures frames { IfOk result (λ after. work.new.frames.items ≡ work.old.frames.items) }
+            → IsDecoded self slice.now.timestamp slice_digest.old m
+            → Holds256 slice_digest.new.hasher (m ++ record_of slice_digest.old.frames.items slice.now)) }
+        ensures frames { IfOk result (λ after. slice_digest.new.frames.items ≡ slice_digest.old.frames.items) }
     {
         let Decoding {
             mut queues,
             request,
         } = self;
         queue_slice(&mut queues, request, slice)?;
-        match queues.run_one(work) {
+        match queues.run_one(slice_digest) {
             Ok(RunOne::Ran) => {}
             Err(QueueFault::Memory) => return Err(AllocError),
             _ => unreachable!(),
@@ -83,22 +83,22 @@ impl Decoding {
         self,
         slices: &[Request],
         timestamp: u64,
-        work: &mut SliceDigest,
+        slice_digest: &mut SliceDigest,
     ) -> Result<Decoding, AllocError>
         requires takes { CanTake self timestamp }
         requires one { AllHave timestamp slices.now }
         requires holds { IsTrue (holds_but_last slices.now) }
         ensures captures { IfOk result (λ after. after ≡ done 0 timestamp ∷ []) }
-        ensures digest { IfOk result (λ after. (m : List ℕ) → IsDecoded self timestamp work.old m
-            → Holds256 work.new.hasher
-            (m ++ flat_map (record_of work.old.frames.items) slices.now)) }
+        ensures digest { IfOk result (λ after. (m : List ℕ) → IsDecoded self timestamp slice_digest.old m
+            → Holds256 slice_digest.new.hasher
+            (m ++ flat_map (record_of slice_digest.old.frames.items) slices.now)) }
     {
         match slices {
             [] => unreachable!(),
-            [last] => self.decode_slice(last, work),
+            [last] => self.decode_slice(last, slice_digest),
             [slice, more @ ..] => {
-                let decoding = self.decode_slice(slice, work)?;
-                decoding.decode_slices(more, timestamp, work)
+                let decoding = self.decode_slice(slice, slice_digest)?;
+                decoding.decode_slices(more, timestamp, slice_digest)
             }
         }
     }
@@ -126,7 +126,7 @@ fn queue_slice(
     ensures captures { OnOk result (queues.new.captures ≡ queues.old.captures) }
 {
     let controls = SliceControls {
-        work: slice.work.clone()?,
+        body: slice.body.clone()?,
         references: slice.references.clone()?,
     };
     let bytes = slice.bytes().clone()?;

@@ -3,6 +3,10 @@
 ghost use Rattle.std.specs.Prelude.{◌≡◌, ◌∷◌, ◌++◌, [], IfErr, IfOk, IsTrue, OnErr, OnOk};
 ghost use Rattle.decode_jobs.specs.Inputs.{is_whole};
 ghost use Rattle.stand_in_device.specs.Pictures.{picture_of};
+ghost use Rattle.decode_jobs.specs.Keys.{Key};
+ghost use Rattle.decode_jobs.specs.Made.{IsPictureOf};
+ghost use Rattle.stand_in_device.specs.KeyPictures.{IsMade, picture_of_key};
+ghost use Rattle.stand_in_device.specs.declared.picture.Picture.{Picture as Made};
 
 use crate::decoding::Decoding;
 use crate::job::{Finished, Input, Job, Reference, Undone};
@@ -14,13 +18,13 @@ use std::marker::Model;
 /// A stateless decoder whose pictures are digests, with the finished frames that slices may refer
 /// to.
 pub struct Device {
-    work: SliceDigest,
+    slice_digest: SliceDigest,
 }
 
 // By hand, so that whoever drops one is proved over one call.
 impl Drop for Device {
     fn drop(self) {
-        let Device { work: _ } = self;
+        let Device { slice_digest: _ } = self;
     }
 }
 
@@ -31,7 +35,7 @@ impl Model for Device {
 
     ghost Value = { List (Reference Picture) };
 
-    ghost view = { λ device. device.work.frames.items };
+    ghost view = { λ device. device.slice_digest.frames.items };
 }
 
 impl Device {
@@ -40,7 +44,7 @@ impl Device {
         ensures { result ≡ [] }
     {
         Device {
-            work: SliceDigest::new(alloc),
+            slice_digest: SliceDigest::new(alloc),
         }
     }
 
@@ -51,7 +55,9 @@ impl Device {
             (self.new ≡ self.old ++ record { timestamp = timestamp; picture = picture } ∷ []) }
         ensures err { OnErr result (self.new ≡ self.old) }
     {
-        self.work.frames.push(Reference { timestamp, picture })?;
+        self.slice_digest
+            .frames
+            .push(Reference { timestamp, picture })?;
         Ok(())
     }
 
@@ -64,7 +70,7 @@ impl Device {
         ensures emptied { self.new ≡ [] }
     {
         let answer = self.picture_of(alloc, job.input());
-        self.work.frames.clear();
+        self.slice_digest.frames.clear();
         match answer {
             Ok(picture) => Ok(Finished::new(job, picture)),
             Err(cause) => Err(Undone { job, cause }),
@@ -76,15 +82,19 @@ impl Device {
         requires { IsTrue (is_whole input.now) }
         ensures { IfOk result (λ picture. picture ≡ picture_of input.now) }
     {
-        self.work.frames.clear();
+        self.slice_digest.frames.clear();
         self.place_all(input.references())?;
         let [first, ..] = input.requests() else {
             unreachable!()
         };
         let decoding = Decoding::open(alloc)?;
-        let decoding = decoding.decode_slices(input.requests(), first.timestamp, &mut self.work)?;
+        let decoding = decoding.decode_slices(
+            input.requests(),
+            first.timestamp,
+            &mut self.slice_digest,
+        )?;
         decoding.finish(first.timestamp);
-        Ok(self.work.finish())
+        Ok(self.slice_digest.finish())
     }
 
     /// Adds finished frames.
@@ -97,3 +107,10 @@ impl Device {
         Ok(())
     }
 }
+
+/// The device is a function, so that it makes one picture of a key, whatever inputs that is made
+/// of: the digest of the key.
+pub fn picture_of_a_key_is_its_digest()
+    ensures { (key : Key) (picture : Made) → IsPictureOf IsMade key picture
+        → picture ≡ picture_of_key key }
+{}

@@ -10,14 +10,12 @@
 mod decoding;
 mod device;
 mod job;
-mod laws;
 pub mod m2m_queues;
 mod picture;
 mod records;
 mod sets_digest;
 mod slice_digest;
 
-pub use device::Device;
+pub use device::{Device, picture_of_a_key_is_its_digest};
 pub use job::{Finished, Input, Job, Reference, Undone};
-pub use laws::picture_of_a_key_is_its_digest;
 pub use picture::Picture;

@@ -11,14 +11,16 @@ ghost use Rattle.sha2.specs.Sha256.{sha256};
 ghost use Rattle.param_set_controls.specs.SetsForm.{sets_form};
 ghost use Rattle.decode_jobs.specs.Inputs.{entries_of};
 ghost use Rattle.stand_in_device.specs.Pictures.{entry_bytes, size_bytes, slice_record};
-ghost use Rattle.stand_in_device.specs.SliceWorks.{Adds};
+ghost use Rattle.stand_in_device.specs.SliceDigests.{Adds};
 
 use crate::job::Reference;
-use crate::m2m_queues::{SliceWork, Target};
+use crate::m2m_queues::{SliceDecoder, Target};
 use crate::picture::Picture;
 use crate::records::{feed_bytes, feed_references};
 use crate::sets_digest::SetsDigest;
-use h264_controls::{References, SetControls, Work, digest_in_two_parts, sets_form, slice_form};
+use h264_controls::{
+    References, RequestBody, SetControls, digest_in_two_parts, sets_form, slice_form,
+};
 use h264_types::base::Shared;
 use sha2::{Digest, Sha256};
 use std::alloc::{AllocError, Global};
@@ -27,7 +29,7 @@ use std::alloc::{AllocError, Global};
 /// decoded picture buffer: these are its reference_ts.
 #[derive(Debug, Drop)]
 pub(crate) struct SliceControls {
-    pub(crate) work: Shared<Work>,
+    pub(crate) body: Shared<RequestBody>,
     pub(crate) references: Shared<References>,
 }
 
@@ -98,14 +100,14 @@ impl SliceDigest {
     #[tactic(auto, unfolding(crate::specs::Pictures::slice_record))]
     fn begin(&mut self, controls: &SliceControls, bytes: &[u8]) -> Result<(), AllocError>
         ensures hashed { OnOk result (Holds256 self.new.hasher
-            (slice_record self.old.frames.items controls.now.work.controls controls.now.references
+            (slice_record self.old.frames.items controls.now.body.controls controls.now.references
             bytes.now)) }
         ensures frames { self.new.frames.items ≡ self.old.frames.items }
     {
         digest_in_two_parts();
-        let mut hasher = self.front_of(&controls.work.controls.sets)?;
+        let mut hasher = self.front_of(&controls.body.controls.sets)?;
         self.form.clear();
-        slice_form(&controls.work.controls, &mut self.form)?;
+        slice_form(&controls.body.controls, &mut self.form)?;
         feed_slice(
             &mut hasher,
             self.frames.as_slice(),
@@ -122,14 +124,14 @@ impl SliceDigest {
     fn go_on(&mut self, controls: &SliceControls, bytes: &[u8]) -> Result<(), AllocError>
         ensures hashed { OnOk result ((m : List ℕ) → Holds256 self.old.hasher m
             → Holds256 self.new.hasher
-            (m ++ slice_record self.old.frames.items controls.now.work.controls
+            (m ++ slice_record self.old.frames.items controls.now.body.controls
             controls.now.references bytes.now)) }
         ensures frames { self.new.frames.items ≡ self.old.frames.items }
     {
         digest_in_two_parts();
         self.form.clear();
-        self.put_sets(&controls.work.controls.sets)?;
-        slice_form(&controls.work.controls, &mut self.form)?;
+        self.put_sets(&controls.body.controls.sets)?;
+        slice_form(&controls.body.controls, &mut self.form)?;
         feed_slice(
             &mut self.hasher,
             self.frames.as_slice(),
@@ -141,8 +143,8 @@ impl SliceDigest {
     }
 }
 
-impl SliceWork<SliceControls> for SliceDigest {
-    ghost works = { Adds };
+impl SliceDecoder<SliceControls> for SliceDigest {
+    ghost decodes = { Adds };
 
     fn slice(
         &mut self,
@@ -170,7 +172,7 @@ fn feed_slice(
     ensures { (m : List ℕ) → Holds256 hasher.old m
         → Holds256 hasher.new (m ++ form.now ++ size_bytes bytes.now ++ bytes.now
         ++ flat_map (entry_bytes frames.now controls.now.references)
-        (entries_of controls.now.work.controls)) }
+        (entries_of controls.now.body.controls)) }
 {
     hasher.update(form);
     feed_bytes(hasher, bytes);
@@ -178,6 +180,6 @@ fn feed_slice(
         hasher,
         frames,
         &controls.references,
-        &controls.work.controls,
+        &controls.body.controls,
     );
 }

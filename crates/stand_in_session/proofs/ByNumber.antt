@@ -8,7 +8,7 @@ use Rattle.stand_in_device.specs.Jobs.{JobValue}
 use Rattle.stream_session.specs.Jobs.{AnswersGiveBackOf}
 use Rattle.stream_session.specs.Taken.{as_taken, taken_of}
 use Rattle.stream_session.proofs.ByNumber.{same_machine}
-use Rattle.stand_in_session.specs.declared.refusals.NotOut.{NotOut}
+use Rattle.stand_in_session.specs.declared.replies.NotOut.{NotOut}
 use Rattle.stand_in_session.specs.Machines.{Machine}
 use Rattle.stand_in_session.specs.Runs.{GivesJobBack}
 

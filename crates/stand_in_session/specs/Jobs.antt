@@ -1,7 +1,7 @@
 -- Jobs of a session over the pictures of the stand-in.
 use Rattle.std.specs.Prelude.{ℕ, Option, Result}
 use Rattle.picture_store.specs.declared.answers.Landing.{Landing}
-use Rattle.picture_store.specs.declared.refusals.TakeRefused.{TakeRefused}
+use Rattle.picture_store.specs.declared.answers.TakeRefused.{TakeRefused}
 use Rattle.stand_in_device.specs.Jobs.{JobValue}
 use Rattle.stand_in_device.specs.KeyPictures.{IsMade, IsPicture}
 use Rattle.stream_session.specs.Jobs as generic
@@ -12,8 +12,8 @@ abbrev pub AnswersTake : Machine → Result (Option JobValue) TakeRefused → Ma
 AnswersTake old answer new = generic.AnswersTake IsPicture old answer new
 
 -- an answer to one who asks for a job and its unit
-abbrev pub TellsTake : Machine → Result (Option (ℕ × JobValue)) TakeRefused → Machine → Type 0
-TellsTake old answer new = generic.TellsTake IsPicture old answer new
+abbrev pub AnswersTakeWithUnit : Machine → Result (Option (ℕ × JobValue)) TakeRefused → Machine → Type 0
+AnswersTakeWithUnit old answer new = generic.AnswersTakeWithUnit IsPicture old answer new
 
 -- an answer to a job's result
 abbrev pub AnswersLand : Machine → JobValue → Landing → Machine → Type 0

@@ -1,13 +1,13 @@
 -- Jobs that are taken for a unit, and pictures that are dropped, at the stand-in.
 use Rattle.std.specs.Prelude.{ℕ, Option, Result}
-use Rattle.picture_store.specs.declared.refusals.TakeRefused.{TakeRefused}
+use Rattle.picture_store.specs.declared.answers.TakeRefused.{TakeRefused}
 use Rattle.stand_in_device.specs.Jobs.{JobValue}
 use Rattle.stand_in_device.specs.KeyPictures.{IsPicture}
 use Rattle.stand_in_device.specs.declared.picture.Picture.{Picture}
 use Rattle.stream_session.specs.declared.showing.Dropped.TheVariants as dropped
 use Rattle.stream_session.specs.Needing as generic
-use Rattle.stand_in_session.specs.declared.dropping.Dropping.{Dropping}
-use Rattle.stand_in_session.specs.declared.dropping.Dropping.TheVariants as droppings
+use Rattle.stand_in_session.specs.declared.jobs.Dropping.{Dropping}
+use Rattle.stand_in_session.specs.declared.jobs.Dropping.TheVariants as droppings
 use Rattle.stand_in_session.specs.Machines.{Machine}
 
 -- a job is taken for the unit of the id
@@ -15,8 +15,8 @@ abbrev pub TakesFor : Machine → ℕ → ℕ → JobValue → Machine → Type 
 TakesFor old id unit job new = generic.TakesFor IsPicture old id unit job new
 
 -- an answer to one who asks for a job for a unit, and which unit it is of
-abbrev pub TellsTakeFor : Machine → ℕ → Result (Option (ℕ × JobValue)) TakeRefused → Machine → Type 0
-TellsTakeFor old id answer new = generic.TellsTakeFor IsPicture old id answer new
+abbrev pub AnswersTakeWithUnitFor : Machine → ℕ → Result (Option (ℕ × JobValue)) TakeRefused → Machine → Type 0
+AnswersTakeWithUnitFor old id answer new = generic.AnswersTakeWithUnitFor IsPicture old id answer new
 
 -- an answer to one who asks for a job for a unit
 abbrev pub AnswersTakeFor : Machine → ℕ → Result (Option JobValue) TakeRefused → Machine → Type 0

@@ -1,8 +1,8 @@
 -- Commands to a session: the reply to one, and the replies to a list of them.
 use Rattle.std.specs.Prelude.{◌≡◌, ℕ, List, [], ◌∷◌, All, Contains, Option, Some, None, Result, Ok, Err}
 use Rattle.stand_in_device.specs.Jobs.{JobValue}
-use Rattle.picture_store.specs.declared.refusals.TakeRefused.{TakeRefused}
-use Rattle.picture_store.specs.declared.refusals.TakeRefused.TheVariants.{JobsSpent, Memory}
+use Rattle.picture_store.specs.declared.answers.TakeRefused.{TakeRefused}
+use Rattle.picture_store.specs.declared.answers.TakeRefused.TheVariants.{JobsSpent, Memory}
 use Rattle.picture_store.specs.declared.answers.Landing.{Landing}
 use Rattle.picture_store.specs.declared.answers.Returning.{Returning}
 use Rattle.stand_in_session.specs.declared.commands.Command.{Command}
@@ -11,9 +11,9 @@ use Rattle.stream_edits.specs.declared.group_refused.GroupRefused.{GroupRefused}
 use Rattle.stream_edits.specs.declared.receipts.GroupReceipt.{GroupReceipt}
 use Rattle.stream_edits.specs.declared.receipts.Receipt.{Receipt}
 use Rattle.stream_edits.specs.declared.refusals.EditRefused.{EditRefused}
-use Rattle.stream_session.specs.declared.refusals.NoSuchUnit.{NoSuchUnit}
-use Rattle.stand_in_session.specs.declared.refusals.NotOut.{NotOut}
-use Rattle.stand_in_session.specs.declared.dropping.Dropping.{Dropping}
+use Rattle.stream_session.specs.declared.showing.NoSuchUnit.{NoSuchUnit}
+use Rattle.stand_in_session.specs.declared.replies.NotOut.{NotOut}
+use Rattle.stand_in_session.specs.declared.jobs.Dropping.{Dropping}
 use Rattle.stand_in_session.specs.Showing.{Shown, Shows}
 use Rattle.stand_in_session.specs.declared.replies.Reply.{Reply}
 use Rattle.stand_in_session.specs.declared.replies.Reply.TheVariants as replies
@@ -26,7 +26,7 @@ use Rattle.stream_session.specs.Machines.{empty, uncached, AnswersEdit}
 use Rattle.stream_session.specs.Grouping.{AnswersGroup}
 use Rattle.stand_in_session.specs.Jobs.{AnswersTake, AnswersLand}
 use Rattle.stream_session.specs.Jobs.{AnswersGiveBack, IsUnitOf}
-use Rattle.stand_in_session.specs.Needing.{TakesFor, TellsTakeFor, AnswersDrop}
+use Rattle.stand_in_session.specs.Needing.{TakesFor, AnswersTakeWithUnitFor, AnswersDrop}
 use Rattle.stream_session.specs.Taken.{taken_of}
 
 -- what is reported of a unit of the stream: its outcome and its position, or that it isn't there
@@ -48,8 +48,8 @@ TakesJob old (Err Memory) new = ⊥
 abbrev pub TakesJobFor : Machine → ℕ → Result (Option TakenJob) TakeRefused → Machine → Type 0
 TakesJobFor old id (Ok (Some taken)) new =
     (job : JobValue) × (job.number ≡ taken.number) × TakesFor old id taken.unit job new
-TakesJobFor old id (Ok None) new = TellsTakeFor old id (Ok None) new
-TakesJobFor old id (Err JobsSpent) new = TellsTakeFor old id (Err JobsSpent) new
+TakesJobFor old id (Ok None) new = AnswersTakeWithUnitFor old id (Ok None) new
+TakesJobFor old id (Err JobsSpent) new = AnswersTakeWithUnitFor old id (Err JobsSpent) new
 TakesJobFor old id (Err Memory) new = ⊥
 
 -- no job of the number is out, and nothing changes
@@ -105,4 +105,4 @@ Runs from (command ∷ commands) [] to = ⊥
 
 -- the replies are those of a run of the commands from the empty stream
 abbrev pub IsRun : ℕ → List Command → List Reply → Type 0
-IsRun room commands replies = (last : Machine) × Runs (empty room) commands replies last
+IsRun capacity commands replies = (last : Machine) × Runs (empty capacity) commands replies last

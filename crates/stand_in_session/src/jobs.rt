@@ -2,14 +2,26 @@
 
 ghost use Rattle.std.specs.Prelude.{◌≡◌, IfOk, OnErr};
 ghost use Rattle.stand_in_session.specs.Runs.{GivesJobBack, LandsJob, TakesJob, TakesJobFor};
+ghost use Rattle.stand_in_session.specs.Needing.{AnswersDrop};
 
-use crate::refusals::NotOut;
-use crate::replies::TakenJob;
+use crate::replies::{NotOut, TakenJob};
 use crate::session::Session;
 use h264_types::pictures::AuId;
 use picture_store::{Landing, Returning, TakeRefused};
 use stand_in_device::{Device, Finished, Job, Undone};
 use std::alloc::{AllocError, Global};
+use stream_session::Dropped;
+
+/// What comes of dropping a unit's picture.
+#[derive(Clone, Copy, Debug, PartialEq, Eq)]
+pub enum Dropping {
+    /// It was held, and is no more.
+    Dropped,
+    /// It wasn't held, or the unit isn't valid.
+    NotHeld,
+    /// No unit has the id.
+    NoSuchUnit,
+}
 
 /// Takes a job, and tells its number and its unit.
 pub(crate) fn take(
@@ -18,7 +30,7 @@ pub(crate) fn take(
     ensures ok { IfOk result (λ answer. TakesJob session.old answer session.new) }
     ensures err { OnErr result (session.new ≡ session.old) }
 {
-    match session.take_told() {
+    match session.take_with_unit() {
         Ok(Some((unit, job))) => Ok(Ok(Some(taken(unit, job)))),
         Ok(None) => Ok(Ok(None)),
         Err(TakeRefused::JobsSpent) => Ok(Err(TakeRefused::JobsSpent)),
@@ -34,7 +46,7 @@ pub(crate) fn take_for(
     ensures ok { IfOk result (λ answer. TakesJobFor session.old id answer session.new) }
     ensures err { OnErr result (session.new ≡ session.old) }
 {
-    match session.take_told_for(id) {
+    match session.take_with_unit_for(id) {
         Ok(Some((unit, job))) => Ok(Ok(Some(taken(unit, job)))),
         Ok(None) => Ok(Ok(None)),
         Err(TakeRefused::JobsSpent) => Ok(Err(TakeRefused::JobsSpent)),
@@ -95,4 +107,16 @@ fn cause_of(undone: Undone) -> AllocError {
     let (_, input) = job.into_parts();
     drop(input);
     cause
+}
+
+/// Drops the picture of the unit that has the id, and with it that of each unit that has the same
+/// key. It isn't cached by that: a job has to make it again. It takes no memory.
+pub fn drop_picture(session: &mut Session, id: AuId) -> Dropping
+    ensures { AnswersDrop session.old id result session.new }
+{
+    match session.drop_picture(id) {
+        Dropped::Picture(_) => Dropping::Dropped,
+        Dropped::NotHeld => Dropping::NotHeld,
+        Dropped::NoSuchUnit => Dropping::NoSuchUnit,
+    }
 }

@@ -6,24 +6,21 @@
 #![tactic(auto)]
 
 mod commands;
-mod dropping;
 mod jobs;
-mod refusals;
 mod replies;
 mod runner;
 mod session;
 
 pub use commands::Command;
 pub use decode_jobs::dep_keys::KeyId;
-pub use dropping::{Dropping, drop_picture};
-pub use picture_store::{Landing, MOST_ROOM, Returning, TakeRefused};
-pub use refusals::NotOut;
-pub use replies::{Reply, TakenJob, UnitReport};
+pub use jobs::{Dropping, drop_picture};
+pub use picture_store::{Landing, MOST_CAPACITY, Returning, TakeRefused};
+pub use replies::{NotOut, Reply, TakenJob, UnitReport};
 pub use runner::{Runner, run};
 pub use session::{Session, Shown};
 pub use stand_in_device::{Finished, Job, Picture};
 pub use stream_edits::{
-    Changed, Edit, EditRefused, GroupReceipt, GroupRefused, JournalEntry, Last, Place, ReadEdit,
-    ReadGroup, Receipt, ids_differ,
+    Changed, Edit, EditRefused, GroupReceipt, GroupRefused, InsertionPoint, JournalEntry, Last,
+    ReadEdit, ReadGroup, Receipt, ids_differ,
 };
 pub use stream_session::{Config, ConfigFault, Doubt, NoSuchUnit};

@@ -1,12 +1,12 @@
 //! Replies to commands.
 
-use crate::dropping::Dropping;
-use crate::refusals::NotOut;
+use crate::jobs::Dropping;
 use crate::session::Shown;
 use h264_types::pictures::AuId;
 use picture_store::{Landing, Returning, TakeRefused};
 use stream_edits::{EditRefused, GroupReceipt, GroupRefused, Receipt};
 use stream_session::NoSuchUnit;
+use thiserror::Error;
 use unit_outcomes::Outcome;
 
 /// What a command is answered, by the variant of the command's name.
@@ -58,3 +58,8 @@ impl Drop for UnitReport {
         } = self;
     }
 }
+
+/// No job that is out has the number.
+#[derive(Clone, Copy, Debug, PartialEq, Eq, Hash, Error)]
+#[error("no job of the number is out")]
+pub struct NotOut;

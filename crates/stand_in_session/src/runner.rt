@@ -1,7 +1,7 @@
 //! Commands followed on a session.
 
 ghost use Rattle.std.specs.Prelude.{◌≡◌, [], ◌==◌, ◌≤◌, ◌↔◌, None, Some, IfOk, IfSome, IsErrOf, IsTrue, MatchOption, OnErr, OnOk};
-ghost use Rattle.held_pictures.specs.Bounded.{most_room};
+ghost use Rattle.held_pictures.specs.Bounded.{most_capacity};
 ghost use Rattle.stream_session.specs.Altered.{NoneAltered, with_mark};
 ghost use Rattle.stream_session.specs.Grouping.{AnswersGroup};
 ghost use Rattle.stream_session.specs.Machines.{AnswersEdit, empty, uncached};
@@ -11,10 +11,8 @@ ghost use Rattle.stream_session.specs.Taken.{input_of};
 ghost use Rattle.decode_jobs.specs.Inputs.{is_whole};
 
 use crate::commands::Command;
-use crate::dropping::{Dropping, drop_picture};
-use crate::jobs::{give_back, land, take, take_for};
-use crate::refusals::NotOut;
-use crate::replies::{Reply, UnitReport};
+use crate::jobs::{Dropping, drop_picture, give_back, land, take, take_for};
+use crate::replies::{NotOut, Reply, UnitReport};
 use crate::session::Session;
 use h264_types::pictures::AuId;
 use picture_store::Returning;
@@ -46,12 +44,12 @@ impl Drop for Runner {
 impl Model for Runner {
     ghost use Rattle.std.specs.Coded.{codes};
     ghost use Rattle.decode_jobs.specs.Trees.{tree_code};
-    ghost use Rattle.picture_keys.specs.contracts.works.Works as works;
+    ghost use Rattle.picture_keys.specs.contracts.request_bodies.RequestBodies as bodies;
     ghost use Rattle.stand_in_session.specs.Machines.{Machine};
 
     ghost Value = { Machine };
 
-    ghost coded = { Prim.hlevel (codes, tree_code works.the_row.coded) };
+    ghost coded = { Prim.hlevel (codes, tree_code bodies.the_row.coded) };
 
     ghost view = { λ runner. runner.session };
 }
@@ -61,7 +59,7 @@ impl Runner {
     pub fn new(alloc: Global, config: Config) -> Result<Runner, ConfigFault>
         ensures ok { IfOk result (λ runner. runner ≡ empty config.cache) }
         ensures cache { IsErrOf result ConfigFault.Cache
-            ↔ ((1 ≤ config.cache) × (config.cache ≤ most_room) → ⊥) }
+            ↔ ((1 ≤ config.cache) × (config.cache ≤ most_capacity) → ⊥) }
     {
         Ok(Runner {
             alloc,
@@ -191,7 +189,7 @@ fn report(
 /// Follows the commands in turn, from an empty stream, and answers each. An edit that runs out of
 /// memory is answered so; any other lack of memory ends the run.
 pub fn run(alloc: Global, config: Config, commands: &[Command]) -> Result<Vec<Reply>, AllocError>
-    requires { (1 ≤ config.cache) × (config.cache ≤ most_room) }
+    requires { (1 ≤ config.cache) × (config.cache ≤ most_capacity) }
     ensures { IfOk result (λ replies. IsRun config.cache commands.now replies.items) }
 {
     let Ok(mut runner) = Runner::new(alloc, config) else {

@@ -1,12 +1,12 @@
 -- A stream that is read has nothing to complain of exactly where none of its units has a fault.
 use Rattle.std.proofs.Common.{◌≡◌, ◌≤◌, ◌↔◌, ◌==◌, ◌∙◌, ap, sym, ℕ, List, length, IsTrue}
 use Rattle.std.proofs.lemmas.Bool.{eq-eqb, eqb-true}
-use Rattle.access_unit.specs.Rooms.{IsStream, most_units}
+use Rattle.access_unit.specs.StreamUnits.{IsStream, most_units}
 use Rattle.unit_printing.specs.StreamLines.{stream_outcomes}
-use Rattle.stream_check.specs.Counts.{counted}
-use Rattle.stream_check.specs.Found.{IsCheckOf, IsFine, IsTaken}
+use Rattle.stream_check.specs.StreamCounts.{counted}
+use Rattle.stream_check.specs.CheckResult.{IsCheckOf, IsFine, IsTaken}
 use Rattle.stream_check.specs.declared.counts.Which.TheVariants.{Fault}
-use Rattle.stream_check.specs.declared.found.CheckedStream.{CheckedStream}
+use Rattle.stream_check.specs.declared.check_result.CheckedStream.{CheckedStream}
 
 -- how many faults are counted
 faults_are : (units : List (List (List ℕ))) (stream : CheckedStream) → IsCheckOf units stream

@@ -2,4 +2,3 @@ mod Fine
 mod FoldSteps
 mod NextStates
 mod Periods
-mod SeenIds

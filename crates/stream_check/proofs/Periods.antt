@@ -6,7 +6,7 @@ use Rattle.std.proofs.lemmas.List.{drop_more}
 use Rattle.std.proofs.lemmas.List.Sums.{sum_by-cons, take_while-cons}
 use Rattle.unit_outcomes.specs.declared.outcome.Outcome.{Outcome}
 use Rattle.unit_outcomes.specs.declared.outcome.Outcome.TheVariants.{Plan, Fault, Empty}
-use Rattle.stream_check.specs.Counts.{before_next, begins_period, is_valid, longest_period}
+use Rattle.stream_check.specs.StreamCounts.{before_next, begins_period, is_valid, longest_period}
 
 -- how long a period is with a unit, which was so long before it
 abbrev pub period_len : ℕ → Outcome → ℕ

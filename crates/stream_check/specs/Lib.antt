@@ -1,6 +1,6 @@
-pub mod Counts
-pub mod Found
-pub mod Places
+pub mod StreamCounts
+pub mod CheckResult
+pub mod Spans
 pub mod Problems
 pub mod SetWords
 pub mod Unread

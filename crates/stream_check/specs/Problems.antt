@@ -56,8 +56,8 @@ problems_from state id (unit ∷ units) =
 -- PrevRefFrameNum after a picture of these requests: it counts as 0 where output order begins anew (7.4.3)
 abbrev pub last_after_slices : ℕ → Bool → List Request → ℕ
 last_after_slices before begins [] = before
-last_after_slices before begins (request ∷ _) = if request.work.controls.decode_params.nal_ref_idc == 0 then before
-    else if begins then 0 else request.work.controls.decode_params.frame_num
+last_after_slices before begins (request ∷ _) = if request.body.controls.decode_params.nal_ref_idc == 0 then before
+    else if begins then 0 else request.body.controls.decode_params.frame_num
 
 -- after a valid unit
 abbrev pub last_after_plan : ℕ → Plan → ℕ

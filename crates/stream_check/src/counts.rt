@@ -4,7 +4,7 @@ ghost use Rattle.std.specs.Prelude.{◌≡◌, ◌+◌, count_by, IfOk, if◌the
 ghost use Rattle.std.specs.List.{list_any};
 ghost use Rattle.unit_outcomes.specs.SeenUnits.{is_idr_picture};
 ghost use Rattle.frame_requests.specs.FrameFlags.{is_b, is_p};
-ghost use Rattle.stream_check.specs.Counts.{begins_period, counted, counts_of, frames_of, has_fault, has_no_picture, is_bipredicted, is_intra, is_predicted, is_so, is_valid, longest_period, most_frames, slices_in, slices_of};
+ghost use Rattle.stream_check.specs.StreamCounts.{begins_period, counted, counts_of, frames_of, has_fault, has_no_picture, is_bipredicted, is_intra, is_predicted, is_so, is_valid, longest_period, most_frames, slices_in, slices_of};
 
 use h264_controls::Request;
 use h264_types::slice_headers::SliceType;
@@ -15,7 +15,7 @@ use unit_outcomes::doubts::{Doubt, is_idr_picture};
 
 /// What is counted of a stream.
 #[derive(Clone, Copy, Serialize)]
-pub struct Counts {
+pub struct StreamCounts {
     /// The access units.
     pub units: usize,
     /// Valid pictures of I slices alone, those with a P slice and none of type B, and those with a
@@ -51,12 +51,12 @@ pub(crate) enum Which {
     Period,
 }
 
-impl Counts {
+impl StreamCounts {
     /// What is counted of units with these outcomes, of which this is told.
-    pub fn of(outcomes: &[Outcome], told: &[Doubt]) -> Result<Counts, AllocError>
+    pub fn of(outcomes: &[Outcome], told: &[Doubt]) -> Result<StreamCounts, AllocError>
         ensures { IfOk result (λ counts. counts ≡ counts_of outcomes.now told.now) }
     {
-        Ok(Counts {
+        Ok(StreamCounts {
             units: outcomes.len(),
             intra: counted(outcomes, Which::Intra),
             predicted: counted(outcomes, Which::Predicted),

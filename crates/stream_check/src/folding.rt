@@ -1,7 +1,7 @@
 //! The fold over a stream's units.
 
 ghost use Rattle.std.specs.Prelude.{◌≡◌, ◌≤◌, length, IfOk};
-ghost use Rattle.access_unit.specs.Rooms.{most_units};
+ghost use Rattle.access_unit.specs.StreamUnits.{most_units};
 ghost use Rattle.request_core.specs.Fold.{outcomes_of};
 ghost use Rattle.request_core.specs.States.{no_units};
 ghost use Rattle.stream_check.specs.Problems.{problems_from};
@@ -16,14 +16,14 @@ use unit_outcomes::Outcome;
 
 /// What the units of a stream lead to.
 #[derive(Drop)]
-pub(crate) struct Folded {
+pub(crate) struct FoldedStream {
     pub(crate) outcomes: Vec<Outcome>,
     /// The units with a fault, in order.
     pub(crate) problems: Vec<Problem>,
 }
 
 /// Each unit's outcome, and each unit with a fault, of a stream whose ids are 1, 2, 3 and so on.
-pub(crate) fn fold(alloc: Global, units: &[Unit]) -> Result<Folded, AllocError>
+pub(crate) fn fold(alloc: Global, units: &[Unit]) -> Result<FoldedStream, AllocError>
     requires { length units.now ≤ most_units }
     ensures outcomes { IfOk result (λ folded.
         folded.outcomes.items ≡ outcomes_of (numbered_from 1 units.now)) }
@@ -41,7 +41,7 @@ pub(crate) fn fold(alloc: Global, units: &[Unit]) -> Result<Folded, AllocError>
         problems.add(alloc, id, unit, &outcome)?;
         outcomes.push(outcome)?;
     }
-    Ok(Folded {
+    Ok(FoldedStream {
         outcomes,
         problems: problems.found,
     })

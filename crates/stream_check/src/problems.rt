@@ -3,14 +3,14 @@
 ghost use Rattle.std.specs.Prelude.{◌≡◌, ◌++◌, [], IfOk, OnOk};
 ghost use Rattle.access_unit.specs.Sets.{sets_of};
 ghost use Rattle.slice_reading.specs.ParameterSets.{no_sets, put_all};
-ghost use Rattle.stream_check.specs.Places.{place_of};
+ghost use Rattle.stream_check.specs.Spans.{place_of};
 ghost use Rattle.stream_check.specs.Problems.{gap_before, is_gap, last_after, last_after_plan, problem_at, reason_in};
 
-use crate::places::Place;
+use crate::spans::UnitSpan;
 use access_unit::Unit;
 use h264_types::base::Shared;
 use h264_types::pictures::AuId;
-use slice_reading::{Slice, Stop, Tables, read_slices, tables_with};
+use slice_reading::{Slice, Tables, Unplanned, read_slices, tables_with};
 use std::alloc::{AllocError, Global};
 use stream_reasons::Reason;
 use unit_outcomes::{Outcome, Plan, ValidityFault};
@@ -27,13 +27,13 @@ pub struct Problem {
 impl Problem {
     /// Where the unit stands, of a stream whose units stand at these places; byte 0 and no bytes
     /// where it has none of them.
-    pub fn place_in(&self, places: &[Place]) -> Place
-        ensures { result ≡ place_of self.now.unit places.now }
+    pub fn span_in(&self, spans: &[UnitSpan]) -> UnitSpan
+        ensures { result ≡ place_of self.now.unit spans.now }
     {
         let at = (self.unit.number() as usize).saturating_sub(1);
-        match places.get(at) {
+        match spans.get(at) {
             Some(place) => *place,
-            None => Place { byte: 0, bytes: 0 },
+            None => UnitSpan { byte: 0, bytes: 0 },
         }
     }
 }
@@ -105,8 +105,8 @@ impl Problems {
         }
         match read_slices(alloc, &self.tables, unit.slices()) {
             Ok(slices) => Ok(gap_before(self.last, fault, &slices)),
-            Err(Stop::Fault(_)) => Ok(Reason::Fault(fault)),
-            Err(Stop::Memory) => Err(AllocError),
+            Err(Unplanned::Fault(_)) => Ok(Reason::Fault(fault)),
+            Err(Unplanned::Memory) => Err(AllocError),
         }
     }
 }

@@ -2,8 +2,8 @@
 use Rattle.std.proofs.Common.{◌≡◌, ℕ, ◌+◌, ◌-◌, ◌≤◌, List, [], ◌∷◌, ◌++◌, length, take, drop, refl, ap, sym, ◌∙◌, arith, append_assoc, length-append, length-drop}
 use Rattle.std.proofs.Math.Seq.{drop-append-add, take-append_seam}
 use Rattle.std.proofs.lemmas.List.{take-append-drop, take-take, length-take-le, map-append, take-map, drop-map}
-use Rattle.stream_edits.specs.declared.acceptance.AcceptedEdit.{AcceptedEdit}
-use Rattle.stream_edits.specs.declared.acceptance.AcceptedGroup.{AcceptedGroup}
+use Rattle.stream_edits.specs.declared.accepting.AcceptedEdit.{AcceptedEdit}
+use Rattle.stream_edits.specs.declared.accepting.AcceptedGroup.{AcceptedGroup}
 use Rattle.stream_edits.specs.declared.changes.Change.{Change}
 use Rattle.stream_edits.specs.declared.draft.Draft.{Draft}
 use Rattle.stream_edits.specs.declared.edits.Edit.{Edit}

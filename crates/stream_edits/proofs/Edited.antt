@@ -4,11 +4,11 @@ use Rattle.std.proofs.lemmas.List.{take-append-drop, length-take}
 use Rattle.access_unit.specs.declared.refused.Refused.{Refused}
 use Rattle.access_unit.specs.declared.refused.Refused.TheVariants as texts
 use Rattle.access_unit.specs.Answers.{IsRefused as IsTextRefused}
-use Rattle.access_unit.specs.Rooms.{most_units}
-use Rattle.stream_edits.specs.declared.acceptance.AcceptedEdit.{AcceptedEdit}
+use Rattle.access_unit.specs.StreamUnits.{most_units}
+use Rattle.stream_edits.specs.declared.accepting.AcceptedEdit.{AcceptedEdit}
 use Rattle.stream_edits.specs.declared.edits.Edit.{Edit}
 use Rattle.stream_edits.specs.declared.edits.Edit.TheVariants.{Insert, Delete, Replace}
-use Rattle.stream_edits.specs.declared.edits.Place.{Place}
+use Rattle.stream_edits.specs.declared.edits.InsertionPoint.{InsertionPoint}
 use Rattle.stream_edits.specs.declared.refusals.EditRefused.{EditRefused}
 use Rattle.stream_edits.specs.declared.refusals.EditRefused.TheVariants as refusals
 use Rattle.stream_edits.specs.Numbers.{refusal_of_text}
@@ -58,7 +58,7 @@ refused_text text texts.Memory memory is = memory refl
 refused_text text refused memory is = ⊎_elim (λ (wants : refused ≡ texts.Memory). absurd (cc)) (λ so. so) is
 
 -- an insertion is refused as its text is
-pub Insert-refused : (old : Register) (place : Place) (text : List ℕ) (refused : EditRefused) → IsRefusedText text refused
+pub Insert-refused : (old : Register) (place : InsertionPoint) (text : List ℕ) (refused : EditRefused) → IsRefusedText text refused
     → IsRefused old (Insert place text) refused
 Insert-refused old place text (refusals.Unit refused) is = is
 Insert-refused old place text refusals.NoSuchUnit is = absurd is

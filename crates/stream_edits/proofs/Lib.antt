@@ -6,6 +6,7 @@ pub mod Fronts
 pub mod Grouped
 pub mod Drafted
 pub mod OneUnit
+pub mod OneEdit
 pub mod Hashed
 pub mod SnapshotsAccepted
 mod None

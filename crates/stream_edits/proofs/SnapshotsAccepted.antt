@@ -1,7 +1,7 @@
 -- What a session that begins from a snapshot needs of the stream.
 use Rattle.std.proofs.Common.{ℕ, ◌≤◌, List, [], ◌∷◌, length}
 use Rattle.std.proofs.lemmas.List.Elements.{All-nil, All-cons}
-use Rattle.access_unit.specs.Rooms.{most_units}
+use Rattle.access_unit.specs.StreamUnits.{most_units}
 use Rattle.stream_edits.specs.Edits.{Register}
 use Rattle.stream_edits.specs.Ids.{HasIds}
 use Rattle.stream_edits.specs.Streams.{Stream}

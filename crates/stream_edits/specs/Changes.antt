@@ -1,16 +1,16 @@
--- A change of a stream in one stretch, and the one that an edit comes to.
+-- A change of a stream in one range, and the one that an edit comes to.
 use Rattle.std.specs.Prelude.{ℕ, ◌+◌, ◌≤◌, ◌++◌, length, take, drop}
 use Rattle.stream_edits.specs.declared.changes.Change.{Change}
-use Rattle.stream_edits.specs.declared.acceptance.AcceptedEdit.{AcceptedEdit}
+use Rattle.stream_edits.specs.declared.accepting.AcceptedEdit.{AcceptedEdit}
 use Rattle.stream_edits.specs.declared.edits.Edit.{Edit}
 use Rattle.stream_edits.specs.Streams.{Stream}
 use Rattle.stream_edits.specs.Edits.{Register, Makes}
 
--- the place at which the stretch begins
+-- the place at which the range begins
 abbrev pub at_of : Change → ℕ
 at_of change = change.at
 
--- the place of the stream as it was at which the units begin that stay behind the stretch
+-- the place of the stream as it was at which the units begin that stay behind the range
 abbrev pub rest_from : Change → ℕ
 rest_from change = change.rest
 
@@ -18,7 +18,7 @@ rest_from change = change.rest
 abbrev pub units_of : Change → Stream
 units_of change = change.units.items
 
--- the stretch is within the stream
+-- the range is within the stream
 pub record IsInside (change : Change) (stream : Stream) : Type 0 where
   pub ordered : at_of change ≤ rest_from change
   pub within : rest_from change ≤ length stream

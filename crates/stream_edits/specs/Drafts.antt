@@ -1,6 +1,6 @@
 -- A stream under the edits of a group.
 use Rattle.std.specs.Prelude.{◌≡◌, ◌-◌, List, [], ◌∷◌, ◌++◌, length, min}
-use Rattle.stream_edits.specs.declared.acceptance.AcceptedEdit.{AcceptedEdit}
+use Rattle.stream_edits.specs.declared.accepting.AcceptedEdit.{AcceptedEdit}
 use Rattle.stream_edits.specs.declared.draft.Draft.{Draft}
 use Rattle.stream_edits.specs.declared.edits.Edit.{Edit}
 use Rattle.stream_edits.specs.Changes.{at_of, rest_from, stream_after}

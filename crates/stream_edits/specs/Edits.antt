@@ -1,10 +1,10 @@
 -- What an edit makes of a stream.
 use Rattle.std.specs.Prelude.{◌≡◌, ℕ, ◌+◌, ◌<◌, List, [], ◌∷◌, length, Some, insert, remove, set}
 use Rattle.access_unit.specs.Answers.{IsAccepted}
-use Rattle.access_unit.specs.Rooms.{most_units}
+use Rattle.access_unit.specs.StreamUnits.{most_units}
 use Rattle.stream_edits.specs.declared.edits.Edit.{Edit}
 use Rattle.stream_edits.specs.declared.edits.Edit.TheVariants.{Insert, Delete, Replace}
-use Rattle.stream_edits.specs.declared.edits.Place.{Place}
+use Rattle.stream_edits.specs.declared.edits.InsertionPoint.{InsertionPoint}
 use Rattle.stream_edits.specs.Streams.{Stream, place_of, start_of}
 
 -- how many ids are given at most
@@ -21,7 +21,7 @@ abbrev pub no_units : Register
 no_units = record { ids_given = 0; stream = [] }
 
 -- a unit more stands at its place, under the next id
-pub record Inserts (old : Register) (place : Place) (text : List ℕ) (id : ℕ) (new : Register) : Type 0 where
+pub record Inserts (old : Register) (place : InsertionPoint) (text : List ℕ) (id : ℕ) (new : Register) : Type 0 where
   pub at : ℕ
   pub unit : List (List ℕ)
   pub accepted : IsAccepted text unit

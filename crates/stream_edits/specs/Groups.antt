@@ -1,7 +1,7 @@
 -- Edits that are made together, as one step.
 use Rattle.std.specs.Prelude.{◌≡◌, ℕ, ◌-◌, ◌<◌, ◌≤◌, List, [], ◌∷◌, length}
-use Rattle.access_unit.specs.Rooms.{most_units}
-use Rattle.stream_edits.specs.declared.acceptance.AcceptedGroup.{AcceptedGroup}
+use Rattle.access_unit.specs.StreamUnits.{most_units}
+use Rattle.stream_edits.specs.declared.accepting.AcceptedGroup.{AcceptedGroup}
 use Rattle.stream_edits.specs.declared.edits.Edit.{Edit}
 use Rattle.stream_edits.specs.Edits.{Register, Makes}
 use Rattle.stream_edits.specs.Changes.{IsInside, at_of, rest_from, after, stream_after}

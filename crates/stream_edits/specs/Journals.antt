@@ -1,11 +1,11 @@
 -- What a journal has of each step.
 use Rattle.std.specs.Prelude.{List, [], ◌∷◌, ◌++◌}
 use Rattle.stream_edits.specs.declared.edits.Edit.{Edit}
-use Rattle.stream_edits.specs.declared.journal_entry.Kept.{Kept}
-use Rattle.stream_edits.specs.declared.journal_entry.Kept.TheVariants.{One, Several}
+use Rattle.stream_edits.specs.declared.journal_entry.Edits.{Edits}
+use Rattle.stream_edits.specs.declared.journal_entry.Edits.TheVariants.{One, Several}
 
 -- the edits that are kept
-abbrev pub edits_in : Kept → List Edit
+abbrev pub edits_in : Edits → List Edit
 edits_in (One edit) = edit ∷ []
 edits_in (Several edits) = edits.items
 

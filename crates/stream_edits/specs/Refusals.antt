@@ -5,7 +5,7 @@ use Rattle.annexb.specs.ByteStream.{HasUnits}
 use Rattle.access_unit.specs.declared.refused.Refused.{Refused}
 use Rattle.access_unit.specs.Answers.{IsAccepted, IsRefused as IsTextRefused}
 use Rattle.access_unit.specs.Refusals.{most_bytes}
-use Rattle.access_unit.specs.Rooms.{most_units}
+use Rattle.access_unit.specs.StreamUnits.{most_units}
 use Rattle.stream_edits.specs.declared.edits.Edit.{Edit}
 use Rattle.stream_edits.specs.declared.edits.Edit.TheVariants.{Insert, Delete, Replace}
 use Rattle.stream_edits.specs.declared.refusals.EditRefused.{EditRefused}

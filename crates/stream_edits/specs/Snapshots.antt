@@ -1,7 +1,7 @@
 -- Snapshots of streams.
 use Rattle.std.specs.Prelude.{◌≡◌, ℕ, ◌≤◌, List, [], ◌∷◌, length, ⊤}
 use Rattle.access_unit.specs.Answers.{IsAccepted}
-use Rattle.access_unit.specs.Rooms.{most_units}
+use Rattle.access_unit.specs.StreamUnits.{most_units}
 use Rattle.stream_edits.specs.Edits.{Register}
 use Rattle.stream_edits.specs.Ids.{HasIds}
 use Rattle.stream_edits.specs.Streams.{Stream}

@@ -8,9 +8,8 @@ ghost use Rattle.picture_keys.specs.Units.{AreDifferent};
 ghost use Rattle.stream_edits.specs.Refusals.{IsRefused};
 ghost use Rattle.stream_edits.specs.Streams.{ids_of};
 
-use crate::acceptance::AcceptedEdit;
 use crate::changes::Change;
-use crate::edits::{Edit, Place};
+use crate::edits::{Edit, InsertionPoint};
 use crate::places::{place_of, start_of};
 use crate::read_edit::ReadEdit;
 use crate::refusals::EditRefused;
@@ -19,6 +18,30 @@ use h264_types::base::Shared;
 use h264_types::pictures::AuId;
 use picture_keys::HashedUnit;
 use std::alloc::{AllocError, Global};
+
+/// What an accepted edit comes to.
+#[derive(Debug, Drop)]
+pub struct AcceptedEdit {
+    /// The change of the stream.
+    pub change: Change,
+    /// The id of the unit that is inserted, deleted or replaced.
+    pub id: AuId,
+    /// How many ids were given, with it.
+    pub ids_given: u32,
+}
+
+/// What the edits of an accepted group come to.
+#[derive(Debug, Drop)]
+pub struct AcceptedGroup {
+    /// The change of the stream.
+    pub change: Change,
+    /// The id of the unit that each edit inserts, deletes or replaces, in order.
+    pub ids: Vec<AuId>,
+    /// How many ids were given, with those of the group.
+    pub ids_given: u32,
+    /// How many bytes were hashed for the edits.
+    pub hashed: usize,
+}
 
 /// What the edit comes to, of units with these ids and with so many ids given, or why it is
 /// refused.
@@ -58,7 +81,7 @@ fn insertion(
     units: &[(AuId, Shared<HashedUnit>)],
     ids: &[AuId],
     ids_given: u32,
-    place: Place,
+    place: InsertionPoint,
     unit: &Shared<HashedUnit>,
 ) -> Result<AcceptedEdit, EditRefused>
     requires ids { ids.now ≡ ids_of units.now }

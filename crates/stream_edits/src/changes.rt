@@ -1,4 +1,4 @@
-//! Changes of a stream in one stretch.
+//! Changes of a stream in one range.
 
 ghost use Rattle.std.specs.Prelude.{◌≡◌, ◌+◌, ◌≤◌, length, vec_len};
 ghost use Rattle.std.specs.Vec.{vec_capacity};
@@ -8,7 +8,7 @@ use h264_types::base::{Shared, replace_range};
 use h264_types::pictures::AuId;
 use picture_keys::HashedUnit;
 
-/// A change of a stream in one stretch: these units stand in the place of those of the stretch, and
+/// A change of a stream in one range: these units stand in the place of those of the range, and
 /// all others stay. A place is that past so many units.
 #[derive(Debug)]
 pub struct Change {
@@ -38,14 +38,14 @@ impl Change {
         Change { at, rest, units }
     }
 
-    /// The place at which the stretch begins, before the change and after it.
+    /// The place at which the range begins, before the change and after it.
     pub fn at(&self) -> usize
         ensures { result ≡ at_of self.now }
     {
         self.at
     }
 
-    /// The place of the stream as it was at which the units begin that stay behind the stretch.
+    /// The place of the stream as it was at which the units begin that stay behind the range.
     pub fn rest_from(&self) -> usize
         ensures { result ≡ rest_from self.now }
     {

@@ -11,8 +11,7 @@ ghost use Rattle.picture_keys.specs.Units.{AreDifferent};
 ghost use Rattle.stream_edits.specs.Refusals.{IsRefused};
 ghost use Rattle.stream_edits.specs.Streams.{ids_of};
 
-use crate::acceptance::{AcceptedEdit, AcceptedGroup};
-use crate::accepting::change_of;
+use crate::accepting::{AcceptedEdit, AcceptedGroup, change_of};
 use crate::changes::Change;
 use crate::narrowing::{common_front, common_rest};
 use crate::read_edit::ReadEdit;

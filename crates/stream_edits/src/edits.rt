@@ -8,7 +8,7 @@ use std::alloc::AllocError;
 
 /// Where a unit is inserted.
 #[derive(Clone, Copy, Debug, PartialEq, Eq)]
-pub enum Place {
+pub enum InsertionPoint {
     /// Before all units.
     First,
     /// Directly after the unit of this id.
@@ -19,7 +19,7 @@ pub enum Place {
 #[derive(Debug, Drop)]
 pub enum Edit {
     /// A unit more, which gets the next id.
-    Insert(Place, Bytes),
+    Insert(InsertionPoint, Bytes),
     /// The unit of this id is taken out.
     Delete(AuId),
     /// Another unit stands in the place of the one of this id, and keeps the id.

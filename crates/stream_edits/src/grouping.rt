@@ -3,13 +3,13 @@
 ghost use Rattle.std.specs.Prelude.{◌≡◌, ◌≤◌, length, IfErr, IfOk};
 ghost use Rattle.stream_edits.specs.Drafts.{IsDraft};
 ghost use Rattle.stream_edits.specs.GroupRefusals.{IsGroupRefused, IsRefusedAmong};
-ghost use Rattle.access_unit.specs.Rooms.{most_units};
+ghost use Rattle.access_unit.specs.StreamUnits.{most_units};
 ghost use Rattle.stream_edits.specs.Groups.{IsForAll};
 ghost use Rattle.stream_edits.specs.Ids.{HasIds};
 ghost use Rattle.stream_edits.specs.Reading.{AreHashedFor};
 ghost use Rattle.stream_edits.specs.Streams.{ids_of};
 
-use crate::acceptance::AcceptedGroup;
+use crate::accepting::AcceptedGroup;
 use crate::draft::Draft;
 use crate::group_refused::GroupRefused;
 use crate::read_edit::ReadEdit;

@@ -9,12 +9,12 @@ use std::slice;
 /// Edits that were accepted together: one by itself, or those of a group. Clauses see the list.
 #[derive(Debug)]
 pub struct JournalEntry {
-    kept: Kept,
+    edits: Edits,
 }
 
 /// One edit stands in the value, and takes no memory of its own.
 #[derive(Debug, Drop)]
-enum Kept {
+enum Edits {
     One(Edit),
     Several(Vec<Edit>),
 }
@@ -22,7 +22,7 @@ enum Kept {
 // By hand, so that whoever drops one is proved over one call.
 impl Drop for JournalEntry {
     fn drop(self) {
-        let JournalEntry { kept: _ } = self;
+        let JournalEntry { edits: _ } = self;
     }
 }
 
@@ -33,7 +33,7 @@ impl Model for JournalEntry {
 
     ghost Value = { List EditValue };
 
-    ghost view = { λ entry. edits_in entry.kept };
+    ghost view = { λ entry. edits_in entry.edits };
 }
 
 impl JournalEntry {
@@ -42,7 +42,7 @@ impl JournalEntry {
         ensures { result ≡ edit ∷ [] }
     {
         JournalEntry {
-            kept: Kept::One(edit),
+            edits: Edits::One(edit),
         }
     }
 
@@ -51,7 +51,7 @@ impl JournalEntry {
         ensures { result ≡ edits.items }
     {
         JournalEntry {
-            kept: Kept::Several(edits),
+            edits: Edits::Several(edits),
         }
     }
 
@@ -59,9 +59,9 @@ impl JournalEntry {
     pub fn edits(&self) -> &[Edit]
         ensures { result.now ≡ self.now }
     {
-        match &self.kept {
-            Kept::One(edit) => slice::from_ref(edit),
-            Kept::Several(edits) => edits.as_slice(),
+        match &self.edits {
+            Edits::One(edit) => slice::from_ref(edit),
+            Edits::Several(edits) => edits.as_slice(),
         }
     }
 }

@@ -8,7 +8,6 @@
 //! pictures; above are those that keep a stream under edits.
 #![tactic(auto)]
 
-mod acceptance;
 mod accepting;
 mod changes;
 mod draft;
@@ -25,10 +24,9 @@ mod receipts;
 mod refusals;
 pub mod snapshots;
 
-pub use acceptance::{AcceptedEdit, AcceptedGroup};
-pub use accepting::change_of;
+pub use accepting::{AcceptedEdit, AcceptedGroup, change_of};
 pub use changes::Change;
-pub use edits::{Edit, Place};
+pub use edits::{Edit, InsertionPoint};
 pub use group_refused::GroupRefused;
 pub use grouping::change_of_group;
 pub use journal_entry::JournalEntry;

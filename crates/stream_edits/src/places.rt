@@ -4,7 +4,7 @@ ghost use Rattle.std.specs.Prelude.{◌≡◌, ◌<◌, ◌≤◌, length, IfSom
 ghost use Rattle.picture_keys.specs.Units.{AreDifferent};
 ghost use Rattle.stream_edits.specs.Streams.{place_among, start_among};
 
-use crate::edits::Place;
+use crate::edits::InsertionPoint;
 use h264_types::pictures::AuId;
 
 /// How far from the place of its number an id is looked for first.
@@ -53,13 +53,13 @@ fn search(ids: &[AuId], id: AuId) -> Option<usize>
 }
 
 /// The place at which a unit is inserted, among units of these ids.
-pub(crate) fn start_of(ids: &[AuId], place: Place) -> Option<usize>
+pub(crate) fn start_of(ids: &[AuId], place: InsertionPoint) -> Option<usize>
     requires { AreDifferent ids.now }
     ensures value { result ≡ start_among ids.now place }
     ensures inside { IfSome result (λ at. at ≤ length ids.now) }
 {
     match place {
-        Place::First => Some(0),
-        Place::After(id) => Some(place_of(ids, id)? + 1),
+        InsertionPoint::First => Some(0),
+        InsertionPoint::After(id) => Some(place_of(ids, id)? + 1),
     }
 }

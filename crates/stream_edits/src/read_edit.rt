@@ -8,7 +8,7 @@ ghost use Rattle.stream_edits.specs.Edits.{Register};
 ghost use Rattle.stream_edits.specs.Reading.{IsHashedFor};
 ghost use Rattle.stream_edits.specs.Refusals.{IsRefused, IsRefusedText};
 
-use crate::edits::{Edit, Place};
+use crate::edits::{Edit, InsertionPoint};
 use crate::refusals::EditRefused;
 use access_unit::read_shared;
 use bytes::Bytes;
@@ -45,7 +45,11 @@ impl Model for ReadEdit {
 impl ReadEdit {
     /// The insertion of a unit, whose text is that of its NAL units joined. No byte of a lone one
     /// is copied, and nothing is read.
-    pub fn insertion(alloc: Global, place: Place, unit: HashedUnit) -> Result<ReadEdit, AllocError>
+    pub fn insertion(
+        alloc: Global,
+        place: InsertionPoint,
+        unit: HashedUnit,
+    ) -> Result<ReadEdit, AllocError>
         ensures ok { IfOk result (λ read. read ≡ Insert place (joined unit)) }
         ensures accepted { IsAccepted (joined unit) unit }
     {

@@ -1,7 +1,7 @@
 //! Groups of edits whose texts are read.
 
 ghost use Rattle.std.specs.Prelude.{◌≡◌, ◌≤◌, IfErr, IfOk, length};
-ghost use Rattle.access_unit.specs.Rooms.{most_units};
+ghost use Rattle.access_unit.specs.StreamUnits.{most_units};
 ghost use Rattle.stream_edits.specs.Edits.{Register};
 ghost use Rattle.stream_edits.specs.GroupReading.{AreReadUpTo};
 ghost use Rattle.stream_edits.specs.GroupRefusals.{IsGroupRefused, IsUntaken};

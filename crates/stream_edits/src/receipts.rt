@@ -3,7 +3,7 @@
 ghost use Rattle.std.specs.Prelude.{◌≡◌};
 ghost use Rattle.stream_edits.specs.Streams.{place_after};
 
-use crate::edits::Place;
+use crate::edits::InsertionPoint;
 use h264_types::pictures::AuId;
 use picture_keys::changed_units::Changed;
 
@@ -21,7 +21,7 @@ pub struct Receipt {
     /// How many pictures are lost: their keys went out of use, and no memory was found to cache
     /// them.
     pub lost_pictures: u64,
-    /// The least stretch of places of the stream after the edit that has every unit that is new, or
+    /// The least range of places of the stream after the edit that has every unit that is new, or
     /// whose outcome is of another kind, another fault or another key than before.
     pub changed: Changed,
 }
@@ -39,7 +39,7 @@ pub struct GroupReceipt {
     pub hashed: u64,
     /// How many pictures are lost, as of an edit.
     pub lost_pictures: u64,
-    /// The least stretch of places of the stream after the group that has every unit that is new,
+    /// The least range of places of the stream after the group that has every unit that is new,
     /// or whose outcome is another one, as of an edit, than before its first edit.
     pub changed: Changed,
 }
@@ -55,12 +55,12 @@ pub struct Last {
 
 impl Last {
     /// The place after all units.
-    pub fn end(self) -> Place
+    pub fn end(self) -> InsertionPoint
         ensures { result ≡ place_after self.id }
     {
         match self.id {
-            Some(id) => Place::After(id),
-            None => Place::First,
+            Some(id) => InsertionPoint::After(id),
+            None => InsertionPoint::First,
         }
     }
 }

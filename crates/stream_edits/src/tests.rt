@@ -7,7 +7,7 @@ ghost use Rattle.picture_keys.specs.Units.{AreDifferent};
 ghost use Rattle.stream_edits.specs.Ids.{HasIds};
 ghost use Rattle.stream_edits.specs.Streams.{ids_of};
 
-use crate::{Edit, EditRefused, Place, change_of};
+use crate::{Edit, EditRefused, InsertionPoint, change_of};
 use access_unit::read_shared;
 use bytes::Bytes;
 use h264_types::base::Shared;
@@ -83,7 +83,7 @@ const ROOMS: [(u32, u32, Result<u32, EditRefused>); 7] = [
 
 #[test]
 fn has_room_for_65_536_units_and_4_294_967_295_ids(rt: HostRuntime) -> Result<(), Fail> {
-    let insertion = Edit::Insert(Place::First, Bytes::from_static(&I));
+    let insertion = Edit::Insert(InsertionPoint::First, Bytes::from_static(&I));
     for (row, (count, ids_given, wanted)) in ROOMS.iter().enumerate() {
         let units = equal_units(&rt, rt.alloc(), *count)?;
         let answer = changed(rt.alloc(), &units, *ids_given, &insertion);

@@ -12,7 +12,7 @@ use Rattle.h264_controls.specs.declared.request.Request.{Request}
 use Rattle.h264_controls.specs.References.{references}
 use Rattle.decode_jobs.specs.Inputs.{entries_of}
 use Rattle.request_core.specs.Requests.{ListedSlice, request_of, requests_of}
-use Rattle.decode_jobs.specs.Keys.{Key, works_of, unit_named, named_by, named_by_all, tree_with}
+use Rattle.decode_jobs.specs.Keys.{Key, bodies_of, unit_named, named_by, named_by_all, tree_with}
 use Rattle.picture_keys.specs.Known.{Known, key_at, key_of, known_with}
 
 -- the key of a unit is the same in both
@@ -104,7 +104,7 @@ module _ (known other : Known) where
           → map (key_named known) (named_by (request_of frames counts id slice hold))
           ≡ map (key_named other) (named_by (request_of frames counts id slice hold))
       request_alike slice hold =
-          entries_alike slice.slice.header (entries_of (request_of frames counts id slice hold).work.controls)
+          entries_alike slice.slice.header (entries_of (request_of frames counts id slice hold).body.controls)
 
       joined_alike : (request : Request) (requests : List Request)
           → map (key_named known) (named_by request) ≡ map (key_named other) (named_by request)
@@ -129,4 +129,4 @@ module _ (known other : Known) where
       -- the key of the picture
       pub key_alike : (slices : List ListedSlice) → key_of known (requests_of frames counts id slices) ≡ key_of other (requests_of frames counts id slices)
       key_alike slices =
-          ap (λ (keys : List (Option Key)). tree_with (works_of (requests_of frames counts id slices)) keys) (named_alike slices)
+          ap (λ (keys : List (Option Key)). tree_with (bodies_of (requests_of frames counts id slices)) keys) (named_alike slices)

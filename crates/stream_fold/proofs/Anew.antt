@@ -17,7 +17,7 @@ use Rattle.stream_fold.specs.Streams.{state_past}
 use Rattle.stream_edits.specs.Changes.{IsInside, at_of, units_of, rest_from, stream_after}
 use Rattle.stream_fold.specs.Changes.{place_after}
 use Rattle.stream_fold.specs.Meeting.{AgreeAt, IsCounted, IsMeeting}
-use Rattle.stream_fold.specs.Kept.{IsFolded, spacing}
+use Rattle.stream_fold.specs.StoredStates.{IsFolded, spacing}
 use Rattle.stream_fold.specs.Refolding.{Begins, IsRefolded, GoesOn, IsStart, CatchesUp, HasCaughtUp, IsMadeAnew, end_of}
 use Rattle.stream_fold.proofs.Fronts.{take_more_of}
 use Rattle.stream_fold.proofs.Changed.{at_inside, rest_inside, take_behind}
@@ -106,10 +106,10 @@ module _ (stream : Stream) (states : States) (end : FoldState) (folded : IsFolde
       }
 
   -- or where a fold has come, past the stored state before
-  pub starts_where_reached : (at kept place : ℕ) (before state : FoldState) (fold : Refold) → at < length stream
+  pub starts_where_resume_point : (at kept place : ℕ) (before state : FoldState) (fold : Refold) → at < length stream
       → IsBefore states at kept before → kept ≤ place → place ≤ at → state ≡ state_past stream place → Begins place kept state fold
       → IsStart at stream states fold
-  starts_where_reached at kept place before state fold inside stored above below past begun =
+  starts_where_resume_point at kept place before state fold inside stored above below past begun =
       let close : at < kept + spacing = before_near at kept before inside stored in
       record {
         before = omega (arith, begun.from_is, below);

@@ -2,8 +2,8 @@
 use Rattle.std.proofs.Common.{◌≡◌, ◌⊎◌, ℕ, ◌+◌, ◌-◌, ◌<◌, ◌≤◌, ◌++◌, length, take, drop, refl, ap, ◌∙◌, arith, inl, inr, append_assoc, length-append, length-drop}
 use Rattle.std.proofs.lemmas.Bool.{cases_lt, lt-ltb, le-ltb}
 use Rattle.std.proofs.lemmas.List.{length-take-le, drop-drop}
-use Rattle.checkpoints.specs.declared.length_change.LengthChange.{LengthChange}
-use Rattle.checkpoints.specs.declared.length_change.LengthChange.TheVariants.{Longer, Shorter}
+use Rattle.checkpoints.specs.declared.shifting.LengthChange.{LengthChange}
+use Rattle.checkpoints.specs.declared.shifting.LengthChange.TheVariants.{Longer, Shorter}
 use Rattle.checkpoints.specs.Changes.{changed}
 use Rattle.request_core.specs.Agreement.{Stream}
 use Rattle.stream_edits.specs.declared.changes.Change.{Change}

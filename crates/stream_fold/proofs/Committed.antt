@@ -10,7 +10,7 @@ use Rattle.unit_outcomes.specs.declared.outcome.Outcome.{Outcome}
 use Rattle.request_core.specs.States.{FoldState, no_units}
 use Rattle.request_core.specs.Fold.{outcomes_from, outcomes_of}
 use Rattle.request_core.specs.Agreement.{Stream, state_from}
-use Rattle.checkpoints.specs.declared.length_change.LengthChange.{LengthChange}
+use Rattle.checkpoints.specs.declared.shifting.LengthChange.{LengthChange}
 use Rattle.checkpoints.specs.Stored.{IsStoredAt}
 use Rattle.checkpoints.specs.Changes.{CanShift, cut, shifted}
 use Rattle.checkpoints.specs.Spacing.{HasNear}
@@ -21,7 +21,7 @@ use Rattle.stream_fold.specs.Streams.{state_past}
 use Rattle.stream_edits.specs.Changes.{IsInside, at_of, rest_from, stream_after, units_of}
 use Rattle.stream_fold.specs.Changes.{brought_to, length_change, place_after}
 use Rattle.stream_fold.specs.Meeting.{AgreeAt}
-use Rattle.stream_fold.specs.Kept.{IsFolded, IsPast, ArePast, AreNear, spacing}
+use Rattle.stream_fold.specs.StoredStates.{IsFolded, IsPast, ArePast, AreNear, spacing}
 use Rattle.stream_fold.specs.Storing.{IsThinned, stored_after}
 use Rattle.stream_fold.specs.Refolding.{AreApart, IsNew, IsMadeAnew, end_of}
 use Rattle.stream_fold.proofs.Changed.{moves, rest_inside, place_is, take_before, length_after, apart_after}

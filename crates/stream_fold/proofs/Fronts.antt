@@ -10,7 +10,7 @@ module _ {A : Type 0} where
       let short : p ≤ length (take q xs) = omega (arith, length-take-le q xs within) in
       take-append-le p (take q xs) ys short ∙ take-take p q xs le
 
-  -- a front and a stretch behind it
+  -- a front and a range behind it
   pub take_more_of : (p q : ℕ) (xs : List A) → p ≤ q → take q xs ≡ take p xs ++ take (q - p) (drop p xs)
   take_more_of p q xs le =
       let sum : q ≡ p + (q - p) = omega arith in

@@ -14,7 +14,7 @@ use Rattle.checkpoints.specs.Spacing.{HasNear}
 use Rattle.checkpoints.proofs.Shifts.{Contains_head}
 use Rattle.stream_fold.specs.declared.refold.Refold.{Refold}
 use Rattle.stream_fold.specs.Streams.{state_past}
-use Rattle.stream_fold.specs.Kept.{spacing}
+use Rattle.stream_fold.specs.StoredStates.{spacing}
 use Rattle.stream_fold.specs.Refolding.{AreApart, Begins, IsNew, IsRefolded, GoesOn}
 use Rattle.stream_fold.proofs.Folds.{length-outcomes_from}
 

@@ -22,8 +22,8 @@ mod Anew
 mod Thinned
 mod Committed
 mod Reaching
-mod Stretch
+mod Range
 mod InFront
 mod Digests
 mod Placed
-mod Stretches
+mod Ranges

@@ -6,10 +6,10 @@ use Rattle.std.specs.BTreeMap.{insert_entry}
 use Rattle.std.proofs.lemmas.Bool.{cases_eq, eq-eqb, ne_eqb, leb-true, or_cases, lt-ltb, le-ltb}
 use Rattle.std.proofs.lemmas.List.Elements.{All-head, All-tail}
 use Rattle.request_core.specs.States.{FoldState}
-use Rattle.checkpoints.specs.declared.length_change.LengthChange.{LengthChange}
+use Rattle.checkpoints.specs.declared.shifting.LengthChange.{LengthChange}
 use Rattle.std.specs.Prelude.{reverse, nat_eq, is_some}
 use Rattle.std.proofs.lemmas.List.{reverse-append}
-use Rattle.checkpoints.specs.Stored.{Stored, IsStoredAt, room_after_put}
+use Rattle.checkpoints.specs.Stored.{Stored, IsStoredAt, spare_after_put}
 use Rattle.checkpoints.specs.Changes.{is_kept, cut, moved, changed, shifted}
 use Rattle.checkpoints.proofs.Stores.{lookup_put, lookup_cut, from_shifted, keys_shifted}
 use Rattle.checkpoints.proofs.Members.{Contains_cases, Contains_map, Contains_put, Contains_put_new, Contains_cut}
@@ -106,10 +106,10 @@ pub put_last : (rest : States) (e : ℕ × FoldState) (states : States)
     → put_all (reverse (rest ++ e ∷ [])) states ≡ put_all (reverse rest) (insert_entry nat_cmp states e.0 e.1)
 put_last rest e states = ap (λ (made : States). put_all made states) (reverse-append rest (e ∷ []))
 
-room_either : (there : Bool) (room n : ℕ) → n + 1 ≤ room → n ≤ (if there then room else room - 1)
-room_either true room n le = omega (arith, le)
-room_either false room n le = omega (arith, le)
+spare_either : (there : Bool) (spare n : ℕ) → n + 1 ≤ spare → n ≤ (if there then spare else spare - 1)
+spare_either true spare n le = omega (arith, le)
+spare_either false spare n le = omega (arith, le)
 
 -- a put takes up room for one at most
-pub room_left : (stored : Stored FoldState) (place n : ℕ) → n + 1 ≤ stored.room → n ≤ room_after_put stored place
-room_left stored place n le = room_either (is_some (lookup (nat_eq place) stored.states)) stored.room n le
+pub spare_left : (stored : Stored FoldState) (place n : ℕ) → n + 1 ≤ stored.spare → n ≤ spare_after_put stored place
+spare_left stored place n le = spare_either (is_some (lookup (nat_eq place) stored.states)) stored.spare n le

@@ -8,7 +8,7 @@ use Rattle.checkpoints.specs.Stored.{IsBefore, IsAfter}
 use Rattle.checkpoints.specs.Changes.{cut}
 use Rattle.checkpoints.specs.Spacing.{HasNear}
 use Rattle.checkpoints.proofs.Members.{Contains_cases, Contains_cut, kept_from_cut}
-use Rattle.stream_fold.specs.Kept.{AreSparse, spacing}
+use Rattle.stream_fold.specs.StoredStates.{AreSparse, spacing}
 use Rattle.stream_fold.specs.Storing.{IsThinned}
 use Rattle.stream_fold.specs.Refolding.{AreApart}
 use Rattle.stream_fold.proofs.Storage.{States, from_cut}

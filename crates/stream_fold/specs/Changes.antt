@@ -1,7 +1,7 @@
--- What a change of one stretch does to the places behind it.
+-- What a change of one range does to the places behind it.
 use Rattle.std.specs.Prelude.{ℕ, ◌+◌, ◌-◌, length, nat_lt, if◌then◌else◌}
-use Rattle.checkpoints.specs.declared.length_change.LengthChange.{LengthChange}
-use Rattle.checkpoints.specs.declared.length_change.LengthChange.TheVariants.{Longer, Shorter}
+use Rattle.checkpoints.specs.declared.shifting.LengthChange.{LengthChange}
+use Rattle.checkpoints.specs.declared.shifting.LengthChange.TheVariants.{Longer, Shorter}
 use Rattle.checkpoints.specs.Changes.{changed}
 use Rattle.stream_edits.specs.declared.changes.Change.{Change}
 use Rattle.stream_edits.specs.Changes.{at_of, rest_from, units_of}
@@ -10,7 +10,7 @@ use Rattle.stream_edits.specs.Changes.{at_of, rest_from, units_of}
 abbrev pub brought_to : Change → ℕ
 brought_to change = at_of change + length (units_of change)
 
--- how a stretch's end moves
+-- how a range's end moves
 abbrev pub change_between : ℕ → ℕ → LengthChange
 change_between old new = if nat_lt new old then Shorter (old - new) else Longer (new - old)
 

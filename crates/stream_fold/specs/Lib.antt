@@ -2,7 +2,7 @@ pub mod Agreement
 pub mod Streams
 pub mod Changes
 pub mod Meeting
-pub mod Kept
+pub mod StoredStates
 pub mod Storing
 pub mod Refolding
 pub mod Prepared

@@ -6,7 +6,7 @@ use Rattle.request_core.specs.Agreement.{Stream}
 use Rattle.stream_edits.specs.declared.changes.Change.{Change}
 use Rattle.stream_fold.specs.declared.folded.PreparedFold.{PreparedFold}
 use Rattle.stream_edits.specs.Changes.{IsInside, at_of, stream_after, units_of}
-use Rattle.stream_fold.specs.Kept.{FoldedValue, IsReached}
+use Rattle.stream_fold.specs.StoredStates.{FoldedValue, IsResumePoint}
 use Rattle.stream_fold.specs.Refolding.{IsMadeAnew, end_of}
 
 -- the change is one of this stream, what it changes is folded anew, and there is room for its units
@@ -15,9 +15,9 @@ pub record IsPrepared (folded : FoldedValue) (prepared : PreparedFold) : Type 0 
   pub inside : IsInside prepared.change folded.stream
   pub short : length folded.stream + length (units_of prepared.change) < 2 ^ 64
   pub made : IsMadeAnew prepared.change folded.stream folded.stored.states prepared.fold prepared.met
-  pub reached : IsReached folded.stream (at_of prepared.change) prepared.reached
-  pub units_room : length (units_of prepared.change) ≤ folded.units_room
-  pub states_room : length prepared.fold.states.items ≤ folded.stored.room
+  pub resume_point : IsResumePoint folded.stream (at_of prepared.change) prepared.resume_point
+  pub units_spare : length (units_of prepared.change) ≤ folded.units_spare
+  pub states_spare : length prepared.fold.states.items ≤ folded.stored.spare
 
 -- the change that is prepared
 abbrev pub change_in : PreparedFold → Change
@@ -39,7 +39,7 @@ end_in prepared stream = end_of stream prepared.met
 abbrev pub outcomes_in : PreparedFold → List Outcome
 outcomes_in prepared = prepared.fold.outcomes.items
 
--- after the change the stream's outcomes are those that they were, but for one stretch, in whose
+-- after the change the stream's outcomes are those that they were, but for one range, in whose
 -- place are new ones, a step of the fold for each
 pub record IsAnew (prepared : PreparedFold) (stream : Stream) : Type 0 where
   pub ordered : begin_in prepared ≤ end_in prepared stream

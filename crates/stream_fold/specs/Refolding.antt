@@ -12,7 +12,7 @@ use Rattle.stream_fold.specs.declared.refold.Refold.{Refold}
 use Rattle.stream_edits.specs.Changes.{at_of, stream_after, rest_from, units_of}
 use Rattle.stream_fold.specs.Changes.{place_after}
 use Rattle.stream_fold.specs.Meeting.{IsCounted, IsMeeting}
-use Rattle.stream_fold.specs.Kept.{IsPast, spacing}
+use Rattle.stream_fold.specs.StoredStates.{IsPast, spacing}
 
 -- it begins at a place in this state
 pub record Begins (from kept : ℕ) (state : FoldState) (fold : Refold) : Type 0 where

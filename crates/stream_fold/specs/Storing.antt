@@ -4,11 +4,11 @@ use Rattle.std.specs.Map.{keys_of}
 use Rattle.std.specs.Ordering.{nat_cmp}
 use Rattle.std.specs.BTreeMap.{insert_entry}
 use Rattle.request_core.specs.States.{FoldState}
-use Rattle.checkpoints.specs.declared.length_change.LengthChange.{LengthChange}
+use Rattle.checkpoints.specs.declared.shifting.LengthChange.{LengthChange}
 use Rattle.checkpoints.specs.Changes.{shifted, cut}
 use Rattle.checkpoints.specs.Spacing.{HasNear}
 use Rattle.checkpoints.specs.Stored.{IsStoredAt}
-use Rattle.stream_fold.specs.Kept.{spacing}
+use Rattle.stream_fold.specs.StoredStates.{spacing}
 
 -- states stored one after the other
 abbrev pub put_all : List (ℕ × FoldState) → List (ℕ × FoldState) → List (ℕ × FoldState)

@@ -4,14 +4,12 @@ ghost use Rattle.std.specs.Prelude.{◌≡◌, ◌↔◌, ◌+◌, ◌-◌, ◌^
 ghost use Rattle.request_core.specs.Fold.{outcomes_of};
 ghost use Rattle.checkpoints.specs.Stored.{IsStoredAt};
 ghost use Rattle.stream_edits.specs.Changes.{IsInside, at_of, rest_from, stream_after, units_of};
-ghost use Rattle.stream_fold.specs.Kept.{AreNear, ArePast, AreSparse, IsReached};
+ghost use Rattle.stream_fold.specs.StoredStates.{AreNear, ArePast, AreSparse, IsResumePoint};
 ghost use Rattle.stream_fold.specs.Streams.{state_past};
 ghost use Rattle.stream_fold.specs.Meeting.{IsCounted, IsMeeting};
 
-use crate::changes::length_change;
-use crate::reached::{Reached, if_between};
-use crate::refold::Refold;
-use crate::storing::{keep_end, store_anew, thin};
+use crate::refold::{Refold, ResumePoint, if_between};
+use crate::storing::{keep_end, length_change, store_anew, thin};
 use checkpoints::Checkpoints;
 use h264_types::base::Shared;
 use h264_types::pictures::AuId;
@@ -28,7 +26,7 @@ pub struct Folded {
     stored: Checkpoints<State>,
     end: State,
     // That of the last change, if it was within the stream: an edit near it begins there.
-    reached: Option<Reached>,
+    resume_point: Option<ResumePoint>,
 }
 
 // By hand, so that whoever drops one is proved over one call.
@@ -38,7 +36,7 @@ impl Drop for Folded {
             units: _,
             stored: _,
             end: _,
-            reached: _,
+            resume_point: _,
         } = self;
     }
 }
@@ -46,21 +44,21 @@ impl Drop for Folded {
 impl Model for Folded {
     ghost use Rattle.std.specs.Prelude.{◌-◌, length, vec_len};
     ghost use Rattle.std.specs.Vec.{vec_capacity};
-    ghost use Rattle.stream_fold.specs.Kept.{FoldedValue, IsFolded, IsReached};
+    ghost use Rattle.stream_fold.specs.StoredStates.{FoldedValue, IsFolded, IsResumePoint};
 
     ghost Value = { FoldedValue };
 
     ghost view = { λ f. record {
       stream = f.units.items;
       stored = f.stored;
-      units_room = vec_capacity f.units - vec_len f.units;
+      units_spare = vec_capacity f.units - vec_len f.units;
     } };
 
     ghost invariant = { λ f. IsFolded f.units.items f.stored.states f.end
-        × IsReached f.units.items (length f.units.items) f.reached };
+        × IsResumePoint f.units.items (length f.units.items) f.resume_point };
 }
 
-/// A change that is prepared: the outcomes of the units of one stretch, made anew. Those of all
+/// A change that is prepared: the outcomes of the units of one range, made anew. Those of all
 /// others stay.
 #[derive(Debug, Drop)]
 pub struct PreparedFold {
@@ -69,7 +67,7 @@ pub struct PreparedFold {
     /// The place of the stream as it was at which the fold came to a stored state, if it did.
     met: Option<usize>,
     /// The place of the change with the state past it, if it is within the stream.
-    reached: Option<Reached>,
+    resume_point: Option<ResumePoint>,
 }
 
 impl PreparedFold {
@@ -89,14 +87,14 @@ impl PreparedFold {
         self.fold.steps.count()
     }
 
-    /// The first place of the stretch, before the change and after it.
+    /// The first place of the range, before the change and after it.
     pub fn begin(&self) -> usize
         ensures { result ≡ begin_in self.now }
     {
         self.fold.from
     }
 
-    /// The place past the stretch in the stream as it was, which this is: that of the stored state
+    /// The place past the range in the stream as it was, which this is: that of the stored state
     /// to which the fold came, or the end.
     pub fn end(&self, folded: &Folded) -> usize
         ensures { result ≡ end_in self.now folded.now.stream }
@@ -104,7 +102,7 @@ impl PreparedFold {
         self.met.unwrap_or(folded.units().len())
     }
 
-    /// The outcomes of the units of the stretch after the change.
+    /// The outcomes of the units of the range after the change.
     pub fn outcomes(&self) -> &[Shared<HashedOutcome>]
         ensures { result.now ≡ outcomes_in self.now }
     {
@@ -124,7 +122,7 @@ impl Folded {
             units: Vec::new(alloc),
             stored: Checkpoints::new(alloc, State::new(alloc)?)?,
             end: State::new(alloc)?,
-            reached: None,
+            resume_point: None,
         })
     }
 
@@ -148,7 +146,7 @@ impl Folded {
 
     /// Prepares a change: folds anew what it changes, and makes room. All answers stay as they
     /// were. The outcomes of the stream as it stands are those of the caller, who keeps them; those
-    /// of the stretch come with the prepared change.
+    /// of the range come with the prepared change.
     pub fn prepare(
         &mut self,
         alloc: Global,
@@ -168,14 +166,14 @@ impl Folded {
         ensures counted { IfOk result
             (λ prepared. IsCounted change self.old.stream (steps_in prepared)) }
     {
-        let (fold, met, reached) = self.refold(alloc, &change, outcomes)?;
+        let (fold, met, resume_point) = self.refold(alloc, &change, outcomes)?;
         self.units.reserve(change.units().len())?;
         self.stored.reserve(fold.states.len())?;
         Ok(PreparedFold {
             change,
             fold,
             met,
-            reached,
+            resume_point,
         })
     }
 
@@ -188,7 +186,7 @@ impl Folded {
             change,
             fold,
             met,
-            reached,
+            resume_point,
         } = prepared;
         let end = self.units.len();
         store_anew(
@@ -201,7 +199,7 @@ impl Folded {
         thin(&mut self.stored, fold.kept);
         thin(&mut self.stored, fold.place);
         keep_end(&mut self.end, met, fold.state);
-        self.reached = reached;
+        self.resume_point = resume_point;
         change.make(&mut self.units);
     }
 
@@ -214,35 +212,35 @@ impl Folded {
         alloc: Global,
         change: &Change,
         outcomes: &[Shared<HashedOutcome>],
-    ) -> Result<(Refold, Option<usize>, Option<Reached>), AllocError>
+    ) -> Result<(Refold, Option<usize>, Option<ResumePoint>), AllocError>
         requires inside { IsInside change.now self.now.stream }
         requires short { length self.now.stream + length (units_of change.now) < 2 ^ 64 }
         requires outcomes { outcomes.now ≡ outcomes_of self.now.stream }
         ensures made { IfOk result (λ made.
             IsMadeAnew change.now self.now.stream self.now.stored.states made.0 made.1) }
-        ensures reached { IfOk result (λ made.
-            IsReached self.now.stream (at_of change.now) made.2) }
+        ensures resume_point { IfOk result (λ made.
+            IsResumePoint self.now.stream (at_of change.now) made.2) }
     {
         let at = change.at();
         let mut fold = self.start(alloc, at)?;
         let from = fold.from;
         fold.go_over(alloc, &self.units[from..at])?;
         fold.share(alloc, &outcomes[from..at])?;
-        let reached = self.reached_at(at, &fold.state)?;
+        let resume_point = self.resume_point_at(at, &fold.state)?;
         fold.go_over(alloc, change.units())?;
         let met = self.catch_up(alloc, change.rest_from(), &mut fold)?;
-        Ok((fold, met, reached))
+        Ok((fold, met, resume_point))
     }
 
     /// The place with the state past it, where it is one in front of some unit.
-    fn reached_at(&self, at: usize, state: &State) -> Result<Option<Reached>, AllocError>
+    fn resume_point_at(&self, at: usize, state: &State) -> Result<Option<ResumePoint>, AllocError>
         requires { state.now ≡ state_past self.now.stream at }
-        ensures { IfOk result (IsReached self.now.stream at) }
+        ensures { IfOk result (IsResumePoint self.now.stream at) }
     {
         if at == self.units.len() {
             return Ok(None);
         }
-        Ok(Some(Reached {
+        Ok(Some(ResumePoint {
             place: at,
             state: state.copy()?,
         }))
@@ -267,8 +265,13 @@ impl Folded {
         ensures { IfOk result (IsStart at self.now.stream self.now.stored.states) }
     {
         let before = self.stored.before(at);
-        match if_between(&self.reached, before.place, at) {
-            Some(reached) => Refold::new(alloc, reached.place, before.place, &reached.state),
+        match if_between(&self.resume_point, before.place, at) {
+            Some(resume_point) => Refold::new(
+                alloc,
+                resume_point.place,
+                before.place,
+                &resume_point.state,
+            ),
             None => Refold::new(alloc, before.place, before.place, before.state),
         }
     }

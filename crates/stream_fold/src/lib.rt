@@ -3,13 +3,13 @@
 //!
 //! `Folded` keeps the units of a stream, and the states of the fold past some of its places. The
 //! units' outcomes are its caller's: it reads them when it prepares a change, and the prepared
-//! change has those of one stretch, made anew. A change is prepared, which may run out of memory
+//! change has those of one range, made anew. A change is prepared, which may run out of memory
 //! and leaves all answers as they were, and then committed, which takes none. The fold goes on from
 //! the stored state before the change, or from the place of the last change, where that is nearer,
 //! and ends where it comes to a state that is stored.
 //!
 //! `OrderedFold` joins a `Folded` with the `Periods` of output_order that its units' outcomes make.
-//! Of the periods, those that the stretch of new outcomes touches are changed, and no others.
+//! Of the periods, those that the range of new outcomes touches are changed, and no others.
 //!
 //! The theorems: whoever decodes a stream's units in order never meets one that lacks something:
 //! where no access unit is refused, the plan of each valid unit has the requests of one picture,
@@ -20,25 +20,16 @@
 //! the marked frames alone (`keys_depend_on_marked_frames`).
 #![tactic(auto)]
 
-mod changes;
-mod depending;
 mod folded;
-mod going_on;
-mod hashed_step;
 mod laws;
 mod ordered;
-mod prepared_change;
-mod reached;
 mod refold;
-mod shares;
-mod showing;
 mod storing;
 
-pub use depending::keys_depend_on_marked_frames;
 pub use folded::{Folded, PreparedFold};
-pub use going_on::folds_that_agree_go_on_alike;
-pub use laws::outcomes_can_be_decoded;
-pub use ordered::OrderedFold;
-pub use prepared_change::PreparedChange;
-pub use shares::shares_of;
+pub use laws::{
+    folds_that_agree_go_on_alike, keys_depend_on_marked_frames, outcomes_can_be_decoded,
+};
+pub use ordered::{OrderedFold, PreparedChange};
+pub use storing::shares_of;
 pub use stream_edits::Change;

@@ -1,26 +1,41 @@
 //! A stream, and where each of its units is shown.
 
-ghost use Rattle.std.specs.Prelude.{◌≡◌, ℕ, ◌+◌, ◌^◌, ◌<◌, ◌≤◌, [], length, slice_get, Some, IfOk, IfNone, IfSome};
+ghost use Rattle.std.specs.Prelude.{◌≡◌, ℕ, ◌+◌, ◌^◌, ◌<◌, ◌≤◌, [], length, slice_get, Some, IfOk, IfNone, IfSome, map};
 ghost use Rattle.request_core.specs.Fold.{outcomes_of};
 ghost use Rattle.output_order.specs.OutputOrder.{positions_of};
 ghost use Rattle.output_order.specs.Bounds.{IsSearched, period_size};
 ghost use Rattle.stream_edits.specs.Changes.{IsInside, stream_after, units_of};
-ghost use Rattle.stream_fold.specs.Kept.{ArePast};
+ghost use Rattle.stream_fold.specs.StoredStates.{ArePast};
 ghost use Rattle.stream_fold.specs.Meeting.{IsCounted, IsMeeting};
 ghost use Rattle.stream_fold.specs.Prepared.{IsAnew, change_in, end_in, steps_in};
 ghost use Rattle.stream_fold.specs.OrderedChange.{IsPrepared};
+ghost use Rattle.output_order.specs.Shown.{shown_of};
 
-use crate::prepared_change::PreparedChange;
-use crate::showing::shown_of_each;
-use crate::{Change, Folded};
+use crate::{Change, Folded, PreparedFold};
 use checkpoints::Checkpoints;
 use h264_types::base::Shared;
 use h264_types::pictures::AuId;
-use output_order::{Comparisons, Periods};
+use output_order::{Comparisons, Periods, Shown, Splice};
 use picture_keys::{HashedOutcome, HashedUnit};
 use request_core::State;
 use std::alloc::{AllocError, Global};
 use std::marker::Model;
+
+/// A change that is prepared, with what it changes in the periods.
+#[derive(Debug, Drop)]
+pub struct PreparedChange {
+    pub(crate) refolded: PreparedFold,
+    pub(crate) splice: Splice,
+}
+
+impl PreparedChange {
+    /// The change of the fold: its steps, and the range of outcomes that it makes anew.
+    pub fn refolded(&self) -> &PreparedFold
+        ensures { result.now ≡ self.now.refolded }
+    {
+        &self.refolded
+    }
+}
 
 /// A stream of access units under their ids, with the position of each in output order.
 #[derive(Debug)]
@@ -80,7 +95,7 @@ impl OrderedFold {
     /// memory.
     pub fn position_in(&self, place: usize, comparisons: &mut Comparisons) -> Option<usize>
         requires within { place < length self.now.folded.stream }
-        requires room { comparisons.old + length self.now.folded.stream < 2 ^ 64 }
+        requires spare { comparisons.old + length self.now.folded.stream < 2 ^ 64 }
         ensures position { slice_get (positions_of (outcomes_of self.now.folded.stream)) place
             ≡ Some result }
         ensures few { comparisons.new
@@ -93,7 +108,7 @@ impl OrderedFold {
         self.periods.position_in(place, comparisons)
     }
 
-    /// The place past the stretch that a prepared change makes anew: from there on outcomes stay.
+    /// The place past the range that a prepared change makes anew: from there on outcomes stay.
     pub fn end_of(&self, prepared: &PreparedChange) -> usize
         ensures { result ≡ end_in prepared.now.refolded self.now.folded.stream }
     {
@@ -102,7 +117,7 @@ impl OrderedFold {
 
     /// Prepares a change: folds anew what it changes, prepares what this changes in the periods,
     /// and makes room. All answers stay as they were. The outcomes of the stream as it stands are
-    /// those of the caller, who keeps them; those of the stretch come with the prepared change.
+    /// those of the caller, who keeps them; those of the range come with the prepared change.
     pub fn prepare(
         &mut self,
         alloc: Global,
@@ -143,4 +158,18 @@ impl OrderedFold {
         self.folded.commit(refolded);
         self.periods.commit(splice);
     }
+}
+
+/// What is shown of units with these outcomes.
+pub(crate) fn shown_of_each(
+    alloc: Global,
+    outcomes: &[Shared<HashedOutcome>],
+) -> Result<Vec<Option<Shown>>, AllocError>
+    ensures { IfOk result (λ shown. shown.items ≡ map shown_of outcomes.now) }
+{
+    let mut shown = Vec::with_capacity(alloc, outcomes.len())?;
+    for outcome in outcomes {
+        shown.push(Shown::of(outcome))?;
+    }
+    Ok(shown)
 }

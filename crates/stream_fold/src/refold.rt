@@ -1,15 +1,22 @@
 //! A fold over a stream as it will be, from a stored state on.
 
-ghost use Rattle.std.specs.Prelude.{◌≡◌, ◌+◌, ◌-◌, ◌^◌, ◌<◌, ◌≤◌, ◌∷◌, ◌++◌, [], length, IfOk, OnOk};
+ghost use Rattle.std.specs.Prelude.{◌≡◌, ◌+◌, ◌-◌, ◌^◌, ◌<◌, ◌≤◌, ◌∷◌, ◌++◌, [], length, IfOk, OnOk, OnErr, Some, IfSome};
 ghost use Rattle.request_core.specs.Agreement.{Stream};
+ghost use Rattle.request_core.specs.Fold.{fold_step};
 
-use crate::hashed_step::hashed_step;
-use crate::shares::shares_of;
+use crate::storing::shares_of;
 use h264_types::base::Shared;
 use h264_types::pictures::AuId;
 use picture_keys::{HashedOutcome, HashedUnit};
-use request_core::{State, Steps};
+use request_core::{State, Steps, step};
 use std::alloc::{AllocError, Global};
+
+/// A place, and the state of the fold past the units in front of it.
+#[derive(Debug, Drop)]
+pub(crate) struct ResumePoint {
+    pub(crate) place: usize,
+    pub(crate) state: State,
+}
 
 /// How far stored states stand apart at most, in units.
 pub(crate) const SPACING: usize = 32;
@@ -127,5 +134,44 @@ impl Refold {
         self.since += 1;
         self.outcomes.push(Shared::new(alloc, outcome)?)?;
         Ok(())
+    }
+}
+
+/// One step of the fold, as `request_core::step` makes it: the unit's outcome keeps the digest of
+/// the unit's slices.
+pub(crate) fn hashed_step(
+    alloc: Global,
+    state: &State,
+    id: AuId,
+    unit: &HashedUnit,
+    steps: &mut Steps,
+) -> Result<(State, HashedOutcome), AllocError>
+    requires { steps.old + 1 < 2 ^ 64 }
+    ensures value { IfOk result (λ answer. answer ≡ fold_step state.now id unit.now) }
+    ensures counted { OnOk result (steps.new ≡ steps.old + 1) }
+    ensures kept { OnErr result (steps.new ≡ steps.old) }
+{
+    let (state, outcome) = step(alloc, state, id, unit.unit(), steps)?;
+    Ok((state, HashedOutcome::new(outcome, unit.digest())))
+}
+
+/// The place and its state, where it is one of those from `low` on up to `high`.
+pub(crate) fn if_between(
+    resume_point: &Option<ResumePoint>,
+    low: usize,
+    high: usize,
+) -> Option<&ResumePoint>
+    ensures { IfSome result (λ found.
+        (resume_point.now ≡ Some found.now) × (low ≤ found.now.place) × (found.now.place ≤ high)) }
+{
+    match resume_point {
+        Some(found) => {
+            if low <= found.place && found.place <= high {
+                Some(found)
+            } else {
+                None
+            }
+        }
+        None => None,
     }
 }

@@ -1,13 +1,18 @@
 //! States stored along a changed stream.
 
-ghost use Rattle.std.specs.Prelude.{◌≡◌, ℕ, ◌<◌, ◌≤◌, length, None, Some};
+ghost use Rattle.std.specs.Prelude.{◌≡◌, ℕ, ◌<◌, ◌≤◌, length, None, Some, ◌+◌, ◌^◌, IfOk};
 ghost use Rattle.std.specs.Map.{keys_of};
 ghost use Rattle.checkpoints.specs.Changes.{CanShift, cut};
 ghost use Rattle.stream_fold.specs.Storing.{IsThinned, put_all, stored_after};
+ghost use Rattle.stream_fold.specs.Changes.{brought_to, length_change};
 
 use crate::refold::SPACING;
 use checkpoints::{Checkpoints, LengthChange};
+use h264_types::base::Shared;
+use picture_keys::HashedOutcome;
 use request_core::State;
+use std::alloc::{AllocError, Global};
+use stream_edits::Change;
 
 /// Keeps the states up to one place and those from another place on, which move by the change, and
 /// stores these states between. There is room for them.
@@ -20,7 +25,7 @@ pub(crate) fn store_anew(
 )
     requires above { 0 < stays }
     requires apart { CanShift stays change (keys_of (cut kept stays stored.old.states)) }
-    requires room { length states.items ≤ stored.old.room }
+    requires spare { length states.items ≤ stored.old.spare }
     ensures { stored.new.states ≡ stored_after kept stays change states.items stored.old.states }
 {
     stored.cut(kept, stays);
@@ -30,7 +35,7 @@ pub(crate) fn store_anew(
 
 /// Stores these states, for which there is room, one after the other.
 fn put_all(stored: &mut Checkpoints<State>, mut states: Vec<(usize, State)>)
-    requires { length states.items ≤ stored.old.room }
+    requires { length states.items ≤ stored.old.spare }
     ensures { stored.new.states ≡ put_all states.items stored.old.states }
 {
     states.reverse();
@@ -67,4 +72,31 @@ pub(crate) fn keep_end(end: &mut State, met: Option<usize>, state: State)
         None => *end = state,
         Some(_) => {}
     }
+}
+
+/// How a change changes the stream's length.
+pub(crate) fn length_change(change: &Change) -> LengthChange
+    requires { brought_to change.now < 2 ^ 64 }
+    ensures { result ≡ length_change change.now }
+{
+    let (end, rest) = (change.at() + change.units().len(), change.rest_from());
+    if end < rest {
+        LengthChange::Shorter(rest - end)
+    } else {
+        LengthChange::Longer(end - rest)
+    }
+}
+
+/// The outcomes, with one owner more of each.
+pub fn shares_of(
+    alloc: Global,
+    outcomes: &[Shared<HashedOutcome>],
+) -> Result<Vec<Shared<HashedOutcome>>, AllocError>
+    ensures { IfOk result (λ shares. shares.items ≡ outcomes.now) }
+{
+    let mut shares = Vec::with_capacity(alloc, outcomes.len())?;
+    for outcome in outcomes {
+        shares.push(outcome.clone()?)?;
+    }
+    Ok(shares)
 }

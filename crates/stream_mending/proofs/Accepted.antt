@@ -1,11 +1,11 @@
--- A stream that isn't refused is written as it is: its NAL units are those of its stretches.
+-- A stream that isn't refused is written as it is: its NAL units are those of its segments.
 use Rattle.std.proofs.Common.{◌≡◌, ℕ, zero, suc, ◌-◌, ◌<◌, ◌≤◌, List, [], ◌∷◌, ◌++◌, length, map, drop, replicate, arith, refl, ap, sym, ◌∙◌, append_assoc}
 use Rattle.std.proofs.lemmas.Bool.{false≢true}
 use Rattle.std.proofs.lemmas.List.{append-nil, length-replicate, drop-replicate}
 use Rattle.std.specs.List.{flat_map}
 use Rattle.annexb.specs.ByteStream.{start_code, AreUnits, BeginsWithUnit}
 use Rattle.annexb.proofs.Tails.{IsTail, IsTail-from_unit, IsTail-drop}
-use Rattle.stream_mending.specs.Stretches.{Cut, after_code, cut_of, before_others, trimmed}
+use Rattle.stream_mending.specs.Segments.{Cut, after_code, cut_of, before_others, trimmed}
 use Rattle.stream_mending.proofs.Cuts.{NoCode, cut_at, cut_none}
 
 -- the text that a cut came from

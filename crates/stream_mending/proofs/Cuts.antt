@@ -5,8 +5,8 @@ use Rattle.std.proofs.lemmas.List.{drop-append-le, take-append-drop, length-take
 use Rattle.memchr.specs.Find.{OccursAt, Nowhere, NoneBefore}
 use Rattle.annexb.specs.ByteStream.{start_code}
 use Rattle.annexb.proofs.Needles.{drop-occurs, OccursAt-from_drop}
-use Rattle.stream_mending.specs.Stretches.{after_byte, cut_of, stretch_at, stretches_at}
-use Rattle.stream_mending.specs.Mending.{stretches_from}
+use Rattle.stream_mending.specs.Segments.{after_byte, cut_of, segment_at, segments_at}
+use Rattle.stream_mending.specs.Mending.{segments_from}
 
 -- no start code begins the bytes
 abbrev pub NoCode : List ℕ → Type 0
@@ -111,17 +111,17 @@ pub found_len : (bytes : List ℕ) (ahead : ℕ) → OccursAt bytes needle ahead
 found_len bytes ahead occurs =
     omega (arith, length-take-le ahead bytes (omega (arith, occurs.fits)), length-drop (ahead + 3) bytes, occurs.fits)
 
--- the stretches from a start code on, of which the first ends at the next one
-pub next_stretches : (bytes front rest : List ℕ) (place next : ℕ)
+-- the segments from a start code on, of which the first ends at the next one
+pub next_segments : (bytes front rest : List ℕ) (place next : ℕ)
     → cut_of bytes ≡ record { front = front; rest = (cut_of rest).front ∷ (cut_of rest).rest }
     → next ≡ place + (length front + 3)
-    → stretches_from place bytes ≡ stretch_at place front ∷ stretches_from next rest
-next_stretches bytes front rest place next cut e =
+    → segments_from place bytes ≡ segment_at place front ∷ segments_from next rest
+next_segments bytes front rest place next cut e =
     let there : place + (3 + length front) ≡ next = omega arith in
-    ap (λ c. stretches_at place (c.front ∷ c.rest)) cut
-    ∙ ap (λ n. stretch_at place front ∷ stretches_at n ((cut_of rest).front ∷ (cut_of rest).rest)) there
+    ap (λ c. segments_at place (c.front ∷ c.rest)) cut
+    ∙ ap (λ n. segment_at place front ∷ segments_at n ((cut_of rest).front ∷ (cut_of rest).rest)) there
 
 -- the last one
-pub last_stretch : (bytes : List ℕ) (place : ℕ) → cut_of bytes ≡ record { front = bytes; rest = [] }
-    → stretches_from place bytes ≡ stretch_at place bytes ∷ []
-last_stretch bytes place cut = ap (λ c. stretches_at place (c.front ∷ c.rest)) cut
+pub last_segment : (bytes : List ℕ) (place : ℕ) → cut_of bytes ≡ record { front = bytes; rest = [] }
+    → segments_from place bytes ≡ segment_at place bytes ∷ []
+last_segment bytes place cut = ap (λ c. segments_at place (c.front ∷ c.rest)) cut

@@ -4,9 +4,9 @@ use Rattle.std.proofs.lemmas.List.{append-nil}
 use Rattle.std.proofs.lemmas.Grind.{flat_map-append}
 use Rattle.std.proofs.lemmas.List.Folds.{list_any-append}
 use Rattle.std.specs.List.{flat_map, list_any}
-use Rattle.stream_mending.specs.Stretches.{Stretch, cut_of, stretches_of}
-use Rattle.stream_mending.specs.Portions.{Portion, joint_after, ended_by, goes_on_in, with_stretch, portions_from, portions_of}
-use Rattle.stream_mending.specs.Mended.{mended, told, front_text, told_front, told_stretch, told_portion, told_size, portion_text, stays}
+use Rattle.stream_mending.specs.Segments.{Segment, cut_of, segments_of}
+use Rattle.stream_mending.specs.Portions.{Portion, joint_after, ended_by, goes_on_in, with_segment, portions_from, portions_of}
+use Rattle.stream_mending.specs.Mended.{mended, told, front_text, told_front, told_segment, told_portion, told_size, portion_text, stays}
 use Rattle.stream_mending.specs.Mending.{IsFrontOf, IsLeft, IsMendedTo, IsMendedUpTo}
 use Rattle.stream_mending.specs.declared.joint.Joint.{Joint}
 use Rattle.stream_mending.specs.declared.joint.Joint.TheVariants.{Joins, Begins, NeedsDelimiter}
@@ -23,32 +23,32 @@ module _ {A : Type 0} where
   front_then : (front more all : List A) → all ≡ front ++ more → IsFrontOf front all
   front_then front more all is = (more, is)
 
--- what is told of an access unit's stretches so far comes first of what is told from there on
-told_so_far : (left : List Stretch) (portion : Portion)
-    → IsFrontOf (flat_map told_stretch portion.stretches) (flat_map told_portion (portions_from portion left))
+-- what is told of an access unit's segments so far comes first of what is told from there on
+told_so_far : (left : List Segment) (portion : Portion)
+    → IsFrontOf (flat_map told_segment portion.segments) (flat_map told_portion (portions_from portion left))
 told_so_far [] portion =
     (told_size portion, append-nil (told_portion portion))
-told_so_far (stretch ∷ left) portion =
-    by_joint (told_so_far left (with_stretch portion stretch)) (joint_after portion stretch)
+told_so_far (segment ∷ left) portion =
+    by_joint (told_so_far left (with_segment portion segment)) (joint_after portion segment)
   where
-    by_joint : IsFrontOf (flat_map told_stretch (with_stretch portion stretch).stretches)
-        (flat_map told_portion (portions_from (with_stretch portion stretch) left)) → (joint : Joint) → IsFrontOf (flat_map told_stretch portion.stretches)
-        (flat_map told_portion (ended_by joint portion ++ portions_from (with_stretch (goes_on_in joint portion) stretch) left))
+    by_joint : IsFrontOf (flat_map told_segment (with_segment portion segment).segments)
+        (flat_map told_portion (portions_from (with_segment portion segment) left)) → (joint : Joint) → IsFrontOf (flat_map told_segment portion.segments)
+        (flat_map told_portion (ended_by joint portion ++ portions_from (with_segment (goes_on_in joint portion) segment) left))
     by_joint later Joins =
-        front_more (flat_map told_stretch portion.stretches) (told_stretch stretch) _
-        (later.0, later.1 ∙ ap (λ l. l ++ later.0) (told-push portion stretch))
+        front_more (flat_map told_segment portion.segments) (told_segment segment) _
+        (later.0, later.1 ∙ ap (λ l. l ++ later.0) (told-push portion segment))
     by_joint later Begins = (
-      told_size portion ++ flat_map told_portion (portions_from (with_stretch (goes_on_in Begins portion) stretch) left),
-      append_assoc (flat_map told_stretch portion.stretches) (told_size portion)
-          (flat_map told_portion (portions_from (with_stretch (goes_on_in Begins portion) stretch) left)),
+      told_size portion ++ flat_map told_portion (portions_from (with_segment (goes_on_in Begins portion) segment) left),
+      append_assoc (flat_map told_segment portion.segments) (told_size portion)
+          (flat_map told_portion (portions_from (with_segment (goes_on_in Begins portion) segment) left)),
     )
     by_joint later NeedsDelimiter = (
-      told_size portion ++ flat_map told_portion (portions_from (with_stretch (goes_on_in NeedsDelimiter portion) stretch) left),
-      append_assoc (flat_map told_stretch portion.stretches) (told_size portion)
-          (flat_map told_portion (portions_from (with_stretch (goes_on_in NeedsDelimiter portion) stretch) left)),
+      told_size portion ++ flat_map told_portion (portions_from (with_segment (goes_on_in NeedsDelimiter portion) segment) left),
+      append_assoc (flat_map told_segment portion.segments) (told_size portion)
+          (flat_map told_portion (portions_from (with_segment (goes_on_in NeedsDelimiter portion) segment) left)),
     )
 
-module _ (text written : List ℕ) (said : List LeftOut) (left : List Stretch) (m : Mending) (h : IsMendedTo text written said left m) where
+module _ (text written : List ℕ) (said : List LeftOut) (left : List Segment) (m : Mending) (h : IsMendedTo text written said left m) where
   abbrev after : List Portion
   after = portions_from h.portion left
 
@@ -56,7 +56,7 @@ module _ (text written : List ℕ) (said : List LeftOut) (left : List Stretch) (
   unfolding mended
   written_some some =
       let front = front_text (cut_of text).front in
-      let any : list_any stays (portions_of (stretches_of text)) ≡ true =
+      let any : list_any stays (portions_of (segments_of text)) ≡ true =
       ap (list_any stays) h.whole ∙ list_any-append stays h.done after
       ∙ ap (λ b. b || list_any stays after) (sym h.so_far.stays_is ∙ some) in (
         m.bytes.items ++ flat_map portion_text after,
@@ -79,8 +79,8 @@ module _ (text written : List ℕ) (said : List LeftOut) (left : List Stretch) (
         m.left_out.items ++ later.0,
         ap (λ l. front ++ flat_map told_portion l) h.whole
             ∙ ap (λ l. front ++ l) (flat_map-append told_portion h.done after ∙ ap (λ l. flat_map told_portion h.done ++ l) later.1)
-            ∙ sym (append_assoc front (flat_map told_portion h.done) (flat_map told_stretch h.portion.stretches ++ later.0))
-            ∙ sym (append_assoc (front ++ flat_map told_portion h.done) (flat_map told_stretch h.portion.stretches) later.0)
+            ∙ sym (append_assoc front (flat_map told_portion h.done) (flat_map told_segment h.portion.segments ++ later.0))
+            ∙ sym (append_assoc (front ++ flat_map told_portion h.done) (flat_map told_segment h.portion.segments) later.0)
             ∙ ap (λ l. l ++ later.0) (sym h.so_far.told_are)
             ∙ append_assoc said m.left_out.items later.0,
       )

@@ -1,4 +1,4 @@
--- The access units of stretches, one after the other, and what stays of them.
+-- The access units of segments, one after the other, and what stays of them.
 use Rattle.std.proofs.Common.{◌≡◌, ℕ, zero, suc, ◌<◌, Bool, true, false, ◌&&◌, cond, List, [], ◌∷◌, ◌++◌, length, map, take, get_or, All, None, arith, refl, ap, sym, ◌∙◌}
 use Rattle.std.proofs.lemmas.Bool.{false≢true, and_parts}
 use Rattle.std.proofs.lemmas.List.Elements.{All-head, All-tail, All-cons, All-nil}
@@ -6,9 +6,9 @@ use Rattle.std.specs.List.{filter, list_any}
 use Rattle.annexb.specs.NalUnit.{IsUnit, is_slice}
 use Rattle.annexb.specs.AccessUnits.{begins_access_unit, is_boundary, EndsBefore, AreAccessUnits}
 use Rattle.access_unit.specs.Refusals.{has_slice, refusal_of, refusal_at, header_rows, set_rows, order_rows}
-use Rattle.stream_mending.specs.Stretches.{Stretch}
+use Rattle.stream_mending.specs.Segments.{Segment}
 use Rattle.stream_mending.specs.Faults.{is_sound}
-use Rattle.stream_mending.specs.Portions.{Portion, put, delimiter, units_of, slices_of, is_of_other, joint_of, joint_after, ended_by, goes_on_in, with_stretch, portions_from, fits}
+use Rattle.stream_mending.specs.Portions.{Portion, put, delimiter, units_of, slices_of, is_of_other, joint_of, joint_after, ended_by, goes_on_in, with_segment, portions_from, fits}
 use Rattle.stream_mending.specs.declared.joint.Joint.{Joint}
 use Rattle.stream_mending.specs.declared.joint.Joint.TheVariants.{Joins, Begins, NeedsDelimiter}
 use Rattle.stream_mending.proofs.Sequences.{allowed_at}
@@ -30,11 +30,11 @@ abbrev pub AreLinked : Portion → List Portion → Type 0
 AreLinked portion [] = Unit {0}
 AreLinked portion (next ∷ portions) = (list_any is_slice (units_of portion) ≡ true) × DoesStart next × AreLinked next portions
 
--- the access units of stretches, after one so far
-pub record Portions (portion : Portion) (stretches : List Stretch) : Type 0 where
+-- the access units of segments, after one so far
+pub record Portions (portion : Portion) (segments : List Segment) : Type 0 where
   pub first : Portion
   pub others : List Portion
-  pub are : portions_from portion stretches ≡ first ∷ others
+  pub are : portions_from portion segments ≡ first ∷ others
   pub good : All IsGood (first ∷ others)
   pub linked : AreLinked first others
   pub starts : DoesStart portion → DoesStart first
@@ -48,7 +48,7 @@ unfolding refusal_at header_rows set_rows order_rows
 delimiter_sound = refl
 
 -- where an access unit begins
-pub good_none : (is_delimited : Bool) → IsGood (record { is_delimited = is_delimited; stretches = [] })
+pub good_none : (is_delimited : Bool) → IsGood (record { is_delimited = is_delimited; segments = [] })
 good_none true = record {
   whole = single;
   fine = λ few. delimiter_sound;
@@ -95,25 +95,25 @@ has_any : (portion : Portion) → has_slice (slices_of portion) ≡ true → lis
 has_any portion h = any-slice (units_of portion) ∙ ap has_slice (slices-units portion) ∙ h
 
 -- it still begins so with one more
-starts_more : (portion : Portion) (stretch : Stretch) → DoesStart portion → DoesStart (with_stretch portion stretch)
-starts_more portion stretch h = cases (is_sound stretch.unit) refl
+starts_more : (portion : Portion) (segment : Segment) → DoesStart portion → DoesStart (with_segment portion segment)
+starts_more portion segment h = cases (is_sound segment.unit) refl
   where
-    cases : (b : Bool) → is_sound stretch.unit ≡ b → DoesStart (with_stretch portion stretch)
+    cases : (b : Bool) → is_sound segment.unit ≡ b → DoesStart (with_segment portion segment)
     cases true sound = record {
       unit = h.unit;
-      others = h.others ++ stretch.unit ∷ [];
-      units_are = units_push portion stretch sound ∙ ap (λ l. l ++ stretch.unit ∷ []) h.units_are;
+      others = h.others ++ segment.unit ∷ [];
+      units_are = units_push portion segment sound ∙ ap (λ l. l ++ segment.unit ∷ []) h.units_are;
       begins = h.begins;
     }
     cases false unsound = record {
       unit = h.unit;
       others = h.others;
-      units_are = ap (λ l. put portion.is_delimited ++ l) (units-left_out portion stretch unsound) ∙ h.units_are;
+      units_are = ap (λ l. put portion.is_delimited ++ l) (units-left_out portion segment unsound) ∙ h.units_are;
       begins = h.begins;
     }
 
--- the access units of stretches are good, and linked
-pub portions_good : (stretches : List Stretch) (portion : Portion) → IsGood portion → AreUnitsKept stretches → Portions portion stretches
+-- the access units of segments are good, and linked
+pub portions_good : (segments : List Segment) (portion : Portion) → IsGood portion → AreUnitsKept segments → Portions portion segments
 portions_good [] portion good kept = record {
   first = portion;
   others = [];
@@ -122,62 +122,62 @@ portions_good [] portion good kept = record {
   linked = tt;
   starts = λ starts. starts;
 }
-portions_good (stretch ∷ stretches) portion good kept =
-    by_sound (λ next more. portions_good stretches next more (All-tail Kept stretch stretches kept)) (is_sound stretch.unit) refl
+portions_good (segment ∷ segments) portion good kept =
+    by_sound (λ next more. portions_good segments next more (All-tail Kept segment segments kept)) (is_sound segment.unit) refl
   where
-    here : is_sound stretch.unit ≡ true → IsUnit stretch.unit
-    here = All-head Kept stretch stretches kept
+    here : is_sound segment.unit ≡ true → IsUnit segment.unit
+    here = All-head Kept segment segments kept
 
     Later : Type 0
-    Later = (next : Portion) → IsGood next → Portions next stretches
+    Later = (next : Portion) → IsGood next → Portions next segments
 
-    joined_on : Later → joint_after portion stretch ≡ Joins → IsGood (with_stretch portion stretch) → Portions portion (stretch ∷ stretches)
+    joined_on : Later → joint_after portion segment ≡ Joins → IsGood (with_segment portion segment) → Portions portion (segment ∷ segments)
     joined_on go joins more =
-        let later = go (with_stretch portion stretch) more in
+        let later = go (with_segment portion segment) more in
         record {
           first = later.first;
           others = later.others;
-          are = step portion stretch stretches Joins joins ∙ later.are;
+          are = step portion segment segments Joins joins ∙ later.are;
           good = later.good;
           linked = later.linked;
-          starts = λ starts. later.starts (starts_more portion stretch starts);
+          starts = λ starts. later.starts (starts_more portion segment starts);
         }
 
-    begun_by : Later → (joint : Joint) (is_delimited : Bool) → is_sound stretch.unit ≡ true → joint_after portion stretch ≡ joint
-        → ended_by joint portion ≡ portion ∷ [] → goes_on_in joint portion ≡ record { is_delimited = is_delimited; stretches = [] }
+    begun_by : Later → (joint : Joint) (is_delimited : Bool) → is_sound segment.unit ≡ true → joint_after portion segment ≡ joint
+        → ended_by joint portion ≡ portion ∷ [] → goes_on_in joint portion ≡ record { is_delimited = is_delimited; segments = [] }
         → has_slice (slices_of portion) ≡ true
-        → DoesStart (with_stretch (record { is_delimited = is_delimited; stretches = [] }) stretch)
-        → Portions portion (stretch ∷ stretches)
+        → DoesStart (with_segment (record { is_delimited = is_delimited; segments = [] }) segment)
+        → Portions portion (segment ∷ segments)
     begun_by go joint is_delimited sound is ended begins has starts =
-        let none : Portion = record { is_delimited = is_delimited; stretches = [] } in
-        let later = go (with_stretch none stretch) (good_kept none stretch (good_none is_delimited) here sound (joins_none stretch.unit)) in
+        let none : Portion = record { is_delimited = is_delimited; segments = [] } in
+        let later = go (with_segment none segment) (good_kept none segment (good_none is_delimited) here sound (joins_none segment.unit)) in
         record {
           first = portion;
           others = later.first ∷ later.others;
           are =
-              step portion stretch stretches joint is
-              ∙ ap (λ l. l ++ portions_from (with_stretch (goes_on_in joint portion) stretch) stretches) ended
-              ∙ ap (λ p. portion ∷ portions_from (with_stretch p stretch) stretches) begins
+              step portion segment segments joint is
+              ∙ ap (λ l. l ++ portions_from (with_segment (goes_on_in joint portion) segment) segments) ended
+              ∙ ap (λ p. portion ∷ portions_from (with_segment p segment) segments) begins
               ∙ ap (λ l. portion ∷ l) later.are;
           good = All-cons IsGood portion (later.first ∷ later.others) good later.good;
           linked = (has_any portion has, later.starts starts, later.linked);
           starts = λ starts. starts;
         }
 
-    by_joint : Later → (joint : Joint) → joint_of (slices_of portion) stretch.unit ≡ joint → is_sound stretch.unit ≡ true → Portions portion (stretch ∷ stretches)
-    by_joint go Joins joins sound = joined_on go (rw sound joins) (good_kept portion stretch good here sound joins)
+    by_joint : Later → (joint : Joint) → joint_of (slices_of portion) segment.unit ≡ joint → is_sound segment.unit ≡ true → Portions portion (segment ∷ segments)
+    by_joint go Joins joins sound = joined_on go (rw sound joins) (good_kept portion segment good here sound joins)
     by_joint go Begins is sound =
-        let has = begins_has (slices_of portion) stretch.unit is in
+        let has = begins_has (slices_of portion) segment.unit is in
         begun_by go Begins false sound (rw sound is) refl refl has.0
-        (record { unit = stretch.unit; others = []; units_are = rw sound refl; begins = has.1 })
+        (record { unit = segment.unit; others = []; units_are = rw sound refl; begins = has.1 })
     by_joint go NeedsDelimiter is sound =
-        begun_by go NeedsDelimiter true sound (rw sound is) refl refl (needs_has (slices_of portion) stretch.unit is)
-        (record { unit = delimiter; others = stretch.unit ∷ []; units_are = rw sound refl; begins = refl })
+        begun_by go NeedsDelimiter true sound (rw sound is) refl refl (needs_has (slices_of portion) segment.unit is)
+        (record { unit = delimiter; others = segment.unit ∷ []; units_are = rw sound refl; begins = refl })
 
-    by_sound : Later → (b : Bool) → is_sound stretch.unit ≡ b → Portions portion (stretch ∷ stretches)
-    by_sound go true sound = by_joint go (joint_of (slices_of portion) stretch.unit) refl sound
+    by_sound : Later → (b : Bool) → is_sound segment.unit ≡ b → Portions portion (segment ∷ segments)
+    by_sound go true sound = by_joint go (joint_of (slices_of portion) segment.unit) refl sound
     by_sound go false unsound =
-        joined_on go (rw unsound refl) (good_left_out portion stretch good here unsound)
+        joined_on go (rw unsound refl) (good_left_out portion segment good here unsound)
 
 -- the NAL units of those that stay
 abbrev pub parts_of : List Portion → List (List (List ℕ))

@@ -1,4 +1,4 @@
--- The text of stretches, and its NAL units.
+-- The text of segments, and its NAL units.
 use Rattle.std.proofs.Common.{◌≡◌, ℕ, ◌+◌, ◌-◌, ◌<◌, Bool, true, false, List, [], ◌∷◌, ◌++◌, length, replicate, All, arith, refl, ap, sym, ◌∙◌, append_assoc}
 use Rattle.std.proofs.lemmas.List.{replicate-append-replicate}
 use Rattle.std.proofs.lemmas.List.Elements.{All-head, All-tail, All-cons, All-nil}
@@ -7,10 +7,10 @@ use Rattle.annexb.specs.NalUnit.{IsUnit}
 use Rattle.annexb.specs.Faults.{is_nothing}
 use Rattle.annexb.specs.ByteStream.{start_code}
 use Rattle.access_unit.specs.Coded.{HasRest}
-use Rattle.stream_mending.specs.Stretches.{Stretch, trimmed, stretch_at, stretches_at}
+use Rattle.stream_mending.specs.Segments.{Segment, trimmed, segment_at, segments_at}
 use Rattle.stream_mending.specs.Faults.{is_sound}
 use Rattle.stream_mending.specs.Portions.{sound_units}
-use Rattle.stream_mending.specs.Mended.{stretch_text}
+use Rattle.stream_mending.specs.Mended.{segment_text}
 use Rattle.stream_mending.proofs.Sequences.{allowed_at}
 use Rattle.stream_mending.proofs.Sound.{sound_parts}
 use Rattle.stream_mending.proofs.Trims.{trimmed_ends}
@@ -45,26 +45,26 @@ HasRest-unit unit text units is_unit has = record {
 }
 
 -- NAL units that stay are units
-abbrev pub AreUnitsKept : List Stretch → Type 0
-AreUnitsKept stretches = All (λ stretch. is_sound stretch.unit ≡ true → IsUnit stretch.unit) stretches
+abbrev pub AreUnitsKept : List Segment → Type 0
+AreUnitsKept segments = All (λ segment. is_sound segment.unit ≡ true → IsUnit segment.unit) segments
 
--- stretches in front of one
-pub HasRest-stretches : (stretches : List Stretch) (text : List ℕ) (units : List (List ℕ)) → AreUnitsKept stretches → HasRest text units
-    → HasRest (flat_map stretch_text stretches ++ text) (sound_units stretches ++ units)
-HasRest-stretches [] text units kept has = has
-HasRest-stretches (stretch ∷ stretches) text units kept has =
-    cases (HasRest-stretches stretches text units (All-tail (λ (s : Stretch). is_sound s.unit ≡ true → IsUnit s.unit) stretch stretches kept) has) (is_sound stretch.unit) refl
+-- segments in front of one
+pub HasRest-segments : (segments : List Segment) (text : List ℕ) (units : List (List ℕ)) → AreUnitsKept segments → HasRest text units
+    → HasRest (flat_map segment_text segments ++ text) (sound_units segments ++ units)
+HasRest-segments [] text units kept has = has
+HasRest-segments (segment ∷ segments) text units kept has =
+    cases (HasRest-segments segments text units (All-tail (λ (s : Segment). is_sound s.unit ≡ true → IsUnit s.unit) segment segments kept) has) (is_sound segment.unit) refl
   where
-    cases : HasRest (flat_map stretch_text stretches ++ text) (sound_units stretches ++ units) → (b : Bool) → is_sound stretch.unit ≡ b
-        → HasRest (flat_map stretch_text (stretch ∷ stretches) ++ text) (sound_units (stretch ∷ stretches) ++ units)
+    cases : HasRest (flat_map segment_text segments ++ text) (sound_units segments ++ units) → (b : Bool) → is_sound segment.unit ≡ b
+        → HasRest (flat_map segment_text (segment ∷ segments) ++ text) (sound_units (segment ∷ segments) ++ units)
     cases later true e =
-        let unit = All-head (λ (s : Stretch). is_sound s.unit ≡ true → IsUnit s.unit) stretch stretches kept e in
+        let unit = All-head (λ (s : Segment). is_sound s.unit ≡ true → IsUnit s.unit) segment segments kept e in
         rw (e, append_assoc, append_assoc)
-        (HasRest-unit stretch.unit (replicate stretch.zeros 0 ++ (flat_map stretch_text stretches ++ text)) (sound_units stretches ++ units) unit
-        (HasRest-zeros stretch.zeros (flat_map stretch_text stretches ++ text) (sound_units stretches ++ units) later))
+        (HasRest-unit segment.unit (replicate segment.zeros 0 ++ (flat_map segment_text segments ++ text)) (sound_units segments ++ units) unit
+        (HasRest-zeros segment.zeros (flat_map segment_text segments ++ text) (sound_units segments ++ units) later))
     cases later false e =
         rw (e, append_assoc)
-        (HasRest-zeros stretch.zeros (flat_map stretch_text stretches ++ text) (sound_units stretches ++ units) later)
+        (HasRest-zeros segment.zeros (flat_map segment_text segments ++ text) (sound_units segments ++ units) later)
 
 -- so such a one that stays is a unit
 pub IsUnit-trimmed : (bytes : List ℕ) → is_sound (trimmed bytes) ≡ true → IsUnit (trimmed bytes)
@@ -81,9 +81,9 @@ IsUnit-trimmed bytes sound =
     filled [] h = cc
     filled (byte ∷ l) h = omega arith
 
-pub AreUnitsKept-stretches : (place : ℕ) (pieces : List (List ℕ)) → AreUnitsKept (stretches_at place pieces)
-AreUnitsKept-stretches place [] = All-nil (λ (s : Stretch). is_sound s.unit ≡ true → IsUnit s.unit)
-AreUnitsKept-stretches place (bytes ∷ pieces) =
-    All-cons (λ (s : Stretch). is_sound s.unit ≡ true → IsUnit s.unit) (stretch_at place bytes)
-    (stretches_at (place + (3 + length bytes)) pieces) (IsUnit-trimmed bytes)
-    (AreUnitsKept-stretches (place + (3 + length bytes)) pieces)
+pub AreUnitsKept-segments : (place : ℕ) (pieces : List (List ℕ)) → AreUnitsKept (segments_at place pieces)
+AreUnitsKept-segments place [] = All-nil (λ (s : Segment). is_sound s.unit ≡ true → IsUnit s.unit)
+AreUnitsKept-segments place (bytes ∷ pieces) =
+    All-cons (λ (s : Segment). is_sound s.unit ≡ true → IsUnit s.unit) (segment_at place bytes)
+    (segments_at (place + (3 + length bytes)) pieces) (IsUnit-trimmed bytes)
+    (AreUnitsKept-segments (place + (3 + length bytes)) pieces)

@@ -6,12 +6,12 @@ use Rattle.std.proofs.lemmas.List.Folds.{list_any-append}
 use Rattle.std.specs.List.{flat_map, list_any}
 use Rattle.std.specs.Prelude.{nat_lt}
 use Rattle.annexb.specs.Faults.{zero_run}
-use Rattle.stream_mending.specs.Stretches.{Stretch, cut_of, foreign, trimmed, stretches_at, stretches_of}
+use Rattle.stream_mending.specs.Segments.{Segment, cut_of, foreign, trimmed, segments_at, segments_of}
 use Rattle.stream_mending.specs.Faults.{fault_of, is_sound, has_none}
-use Rattle.stream_mending.specs.Portions.{Portion, units_of, joint_after, ended_by, goes_on_in, with_stretch, portions_from, portions_of, fits, no_stretch}
-use Rattle.stream_mending.specs.Mended.{mended, told, front_text, told_front, told_bytes, told_stretch, told_for, told_portion, told_size, portion_text, stays, first_place}
+use Rattle.stream_mending.specs.Portions.{Portion, units_of, joint_after, ended_by, goes_on_in, with_segment, portions_from, portions_of, fits, no_segment}
+use Rattle.stream_mending.specs.Mended.{mended, told, front_text, told_front, told_bytes, told_segment, told_for, told_portion, told_size, portion_text, stays, first_place}
 use Rattle.stream_mending.specs.OpenPortions.{IsOpen}
-use Rattle.stream_mending.specs.Mending.{IsDone, IsEnded, IsMendedTo, IsMendedUpTo, stretches_from}
+use Rattle.stream_mending.specs.Mending.{IsDone, IsEnded, IsMendedTo, IsMendedUpTo, segments_from}
 use Rattle.stream_mending.specs.declared.joint.Joint.{Joint}
 use Rattle.stream_mending.specs.declared.joint.Joint.TheVariants.{Joins}
 use Rattle.stream_mending.specs.declared.why.Why.{Why}
@@ -23,80 +23,80 @@ use Rattle.stream_mending.proofs.Portions.{told-push}
 
 -- what is written and told of a text that is cut so
 abbrev mended_as : List ℕ → List (List ℕ) → List ℕ
-mended_as front rest = cond (list_any stays (portions_of (stretches_at (length front) rest)))
-    (front_text front ++ flat_map portion_text (portions_of (stretches_at (length front) rest))) []
+mended_as front rest = cond (list_any stays (portions_of (segments_at (length front) rest)))
+    (front_text front ++ flat_map portion_text (portions_of (segments_at (length front) rest))) []
 
 abbrev told_as : List ℕ → List (List ℕ) → List LeftOut
-told_as front rest = told_front front rest ++ flat_map told_portion (portions_of (stretches_at (length front) rest))
+told_as front rest = told_front front rest ++ flat_map told_portion (portions_of (segments_at (length front) rest))
 
 -- what comes behind what was there, after what was given away
 pub said_more : {A : Type 0} (before old new more : List A) → new ≡ old ++ more → before ++ new ≡ (before ++ old) ++ more
 said_more before old new more is = ap (λ l. before ++ l) is ∙ sym (append_assoc before old more)
 
--- one stretch more in the access unit
-module _ (text written : List ℕ) (said : List LeftOut) (done : List Portion) (portion : Portion) (stretch : Stretch) (old new : Mending)
-    (so_far : IsDone text written said done portion old) (opened : IsOpen (with_stretch portion stretch) new.portion)
+-- one segment more in the access unit
+module _ (text written : List ℕ) (said : List LeftOut) (done : List Portion) (portion : Portion) (segment : Segment) (old new : Mending)
+    (so_far : IsDone text written said done portion old) (opened : IsOpen (with_segment portion segment) new.portion)
     (bytes : new.bytes.items ≡ old.bytes.items) (stay : new.stays ≡ old.stays) where
-  done_more : new.left_out.items ≡ old.left_out.items ++ told_stretch stretch → IsDone text written said done (with_stretch portion stretch) new
+  done_more : new.left_out.items ≡ old.left_out.items ++ told_segment segment → IsDone text written said done (with_segment portion segment) new
   done_more tells =
       let before = told_front (cut_of text).front (cut_of text).rest ++ flat_map told_portion done in
       record {
         open_is = opened;
         bytes_are = ap (λ l. written ++ l) bytes ∙ so_far.bytes_are;
         told_are =
-            said_more said old.left_out.items new.left_out.items (told_stretch stretch) tells
-            ∙ ap (λ l. l ++ told_stretch stretch) so_far.told_are
-            ∙ append_assoc before (flat_map told_stretch portion.stretches) (told_stretch stretch)
-            ∙ ap (λ l. before ++ l) (sym (told-push portion stretch));
+            said_more said old.left_out.items new.left_out.items (told_segment segment) tells
+            ∙ ap (λ l. l ++ told_segment segment) so_far.told_are
+            ∙ append_assoc before (flat_map told_segment portion.segments) (told_segment segment)
+            ∙ ap (λ l. before ++ l) (sym (told-push portion segment));
         stays_is = stay ∙ so_far.stays_is;
         unwritten = λ none. so_far.unwritten (sym stay ∙ none);
       }
 
-  pub done_left_out : (why : Why) → fault_of stretch.unit ≡ Some why
-      → new.left_out.items ≡ old.left_out.items ++ told_bytes stretch.place (3 + length stretch.unit) why
-      → IsDone text written said done (with_stretch portion stretch) new
+  pub done_left_out : (why : Why) → fault_of segment.unit ≡ Some why
+      → new.left_out.items ≡ old.left_out.items ++ told_bytes segment.place (3 + length segment.unit) why
+      → IsDone text written said done (with_segment portion segment) new
   done_left_out why fault tells =
-      done_more (tells ∙ ap (λ f. old.left_out.items ++ told_for stretch f) (sym fault))
+      done_more (tells ∙ ap (λ f. old.left_out.items ++ told_for segment f) (sym fault))
 
-  pub done_kept : fault_of stretch.unit ≡ None → new.left_out.items ≡ old.left_out.items
-      → IsDone text written said done (with_stretch portion stretch) new
+  pub done_kept : fault_of segment.unit ≡ None → new.left_out.items ≡ old.left_out.items
+      → IsDone text written said done (with_segment portion segment) new
   done_kept fault tells =
-      done_more (tells ∙ sym (append-nil old.left_out.items) ∙ ap (λ f. old.left_out.items ++ told_for stretch f) (sym fault))
+      done_more (tells ∙ sym (append-nil old.left_out.items) ∙ ap (λ f. old.left_out.items ++ told_for segment f) (sym fault))
 
--- what is left after a stretch
-pub step : (portion : Portion) (stretch : Stretch) (left : List Stretch) (joint : Joint) → joint_after portion stretch ≡ joint
-    → portions_from portion (stretch ∷ left)
-    ≡ ended_by joint portion ++ portions_from (with_stretch (goes_on_in joint portion) stretch) left
-step portion stretch left _ e =
-    ap (λ j. ended_by j portion ++ portions_from (with_stretch (goes_on_in j portion) stretch) left) e
+-- what is left after a segment
+pub step : (portion : Portion) (segment : Segment) (left : List Segment) (joint : Joint) → joint_after portion segment ≡ joint
+    → portions_from portion (segment ∷ left)
+    ≡ ended_by joint portion ++ portions_from (with_segment (goes_on_in joint portion) segment) left
+step portion segment left _ e =
+    ap (λ j. ended_by j portion ++ portions_from (with_segment (goes_on_in j portion) segment) left) e
 
-pub mended_more : (text written : List ℕ) (said : List LeftOut) (left : List Stretch) (stretch : Stretch) (old new : Mending) (joint : Joint)
-    → (h : IsMendedTo text written said (stretch ∷ left) old) → joint_after h.portion stretch ≡ joint
-    → IsDone text written said (h.done ++ ended_by joint h.portion) (with_stretch (goes_on_in joint h.portion) stretch) new
+pub mended_more : (text written : List ℕ) (said : List LeftOut) (left : List Segment) (segment : Segment) (old new : Mending) (joint : Joint)
+    → (h : IsMendedTo text written said (segment ∷ left) old) → joint_after h.portion segment ≡ joint
+    → IsDone text written said (h.done ++ ended_by joint h.portion) (with_segment (goes_on_in joint h.portion) segment) new
     → IsMendedTo text written said left new
-mended_more text written said left stretch old new joint h e so_far = record {
+mended_more text written said left segment old new joint h e so_far = record {
   done = h.done ++ ended_by joint h.portion;
-  portion = with_stretch (goes_on_in joint h.portion) stretch;
+  portion = with_segment (goes_on_in joint h.portion) segment;
   whole =
-      h.whole ∙ ap (λ l. h.done ++ l) (step h.portion stretch left joint e)
-      ∙ sym (append_assoc h.done (ended_by joint h.portion) (portions_from (with_stretch (goes_on_in joint h.portion) stretch) left));
+      h.whole ∙ ap (λ l. h.done ++ l) (step h.portion segment left joint e)
+      ∙ sym (append_assoc h.done (ended_by joint h.portion) (portions_from (with_segment (goes_on_in joint h.portion) segment) left));
   so_far = so_far;
 }
 
 -- one that is left out joins
-pub joins_unsound : (portion : Portion) (stretch : Stretch) → is_sound stretch.unit ≡ false → joint_after portion stretch ≡ Joins
-joins_unsound portion stretch unsound = rw unsound refl
+pub joins_unsound : (portion : Portion) (segment : Segment) → is_sound segment.unit ≡ false → joint_after portion segment ≡ Joins
+joins_unsound portion segment unsound = rw unsound refl
 
 pub unsound_fault : (unit : List ℕ) (why : Why) → fault_of unit ≡ Some why → is_sound unit ≡ false
 unsound_fault unit why fault = ap has_none fault
 
-pub mended_left_out : (text written : List ℕ) (said : List LeftOut) (left : List Stretch) (stretch : Stretch) (old new : Mending)
-    → (h : IsMendedTo text written said (stretch ∷ left) old) → is_sound stretch.unit ≡ false
-    → IsDone text written said h.done (with_stretch h.portion stretch) new → IsMendedTo text written said left new
-mended_left_out text written said left stretch old new h unsound so_far = record {
+pub mended_left_out : (text written : List ℕ) (said : List LeftOut) (left : List Segment) (segment : Segment) (old new : Mending)
+    → (h : IsMendedTo text written said (segment ∷ left) old) → is_sound segment.unit ≡ false
+    → IsDone text written said h.done (with_segment h.portion segment) new → IsMendedTo text written said left new
+mended_left_out text written said left segment old new h unsound so_far = record {
   done = h.done;
-  portion = with_stretch h.portion stretch;
-  whole = h.whole ∙ ap (λ l. h.done ++ l) (step h.portion stretch left Joins (joins_unsound h.portion stretch unsound));
+  portion = with_segment h.portion segment;
+  whole = h.whole ∙ ap (λ l. h.done ++ l) (step h.portion segment left Joins (joins_unsound h.portion segment unsound));
   so_far = so_far;
 }
 
@@ -118,7 +118,7 @@ module _ (text written : List ℕ) (said : List LeftOut) (done : List Portion) (
         told_are =
             said_more said old.left_out.items new.left_out.items (told_size portion) tells
             ∙ ap (λ l. l ++ told_size portion) so_far.told_are
-            ∙ append_assoc (before ++ flat_map told_portion done) (flat_map told_stretch portion.stretches) (told_size portion)
+            ∙ append_assoc (before ++ flat_map told_portion done) (flat_map told_segment portion.segments) (told_size portion)
             ∙ append_assoc before (flat_map told_portion done) (told_portion portion)
             ∙ ap (λ l. before ++ l) (sym (last told_portion (told_portion portion) refl));
         stays_is =
@@ -155,7 +155,7 @@ module _ (text written : List ℕ) (said : List LeftOut) (done : List Portion) (
       (bytes ∙ ap (λ l. old.bytes.items ++ l) (so_far.open_is.zeros_are ∙ rw fit refl))
       (tells ∙ ap (λ l. old.left_out.items ++ l)
       (ap (λ n. told_bytes n old.portion.bytes TooLarge) so_far.open_is.place_is
-      ∙ ap (λ n. told_bytes (first_place portion.stretches) n TooLarge) so_far.open_is.bytes_are ∙ rw fit refl))
+      ∙ ap (λ n. told_bytes (first_place portion.segments) n TooLarge) so_far.open_is.bytes_are ∙ rw fit refl))
       (stay ∙ rw fit (or_false old.stays))
     where
       or_false : (b : Bool) → b ≡ (b || false)
@@ -165,9 +165,9 @@ module _ (text written : List ℕ) (said : List LeftOut) (done : List Portion) (
 -- the next one is begun
 pub begun : (text written : List ℕ) (said : List LeftOut) (done : List Portion) (is_delimited : Bool) (old new : Mending)
     → IsEnded text written said done old
-    → IsOpen (record { is_delimited = is_delimited; stretches = [] }) new.portion
+    → IsOpen (record { is_delimited = is_delimited; segments = [] }) new.portion
     → new.bytes ≡ old.bytes → new.left_out ≡ old.left_out → new.stays ≡ old.stays
-    → IsDone text written said done (record { is_delimited = is_delimited; stretches = [] }) new
+    → IsDone text written said done (record { is_delimited = is_delimited; segments = [] }) new
 begun text written said done is_delimited old new h opened bytes tells stay = record {
   open_is = opened;
   bytes_are = ap (λ v. written ++ v.items) bytes ∙ h.bytes_are;
@@ -176,16 +176,16 @@ begun text written said done is_delimited old new h opened bytes tells stay = re
   unwritten = λ none. h.unwritten (sym stay ∙ none);
 }
 
--- before the first stretch
+-- before the first segment
 pub first_mended : (text bytes : List ℕ) (rest : List (List ℕ)) (front : List ℕ) (place foreign_len : ℕ) (new : Mending)
     → cut_of text ≡ record { front = front; rest = bytes ∷ rest }
     → place ≡ zero_run front → foreign_len ≡ length (foreign front)
-    → IsOpen no_stretch new.portion → new.bytes.items ≡ replicate (length front - foreign_len) 0
+    → IsOpen no_segment new.portion → new.bytes.items ≡ replicate (length front - foreign_len) 0
     → new.left_out.items ≡ told_bytes place foreign_len NotNalUnit → new.stays ≡ false
-    → IsMendedTo text [] [] (stretches_of text) new
+    → IsMendedTo text [] [] (segments_of text) new
 first_mended text bytes rest front place foreign_len new cut at len opened written tells stay = record {
   done = [];
-  portion = no_stretch;
+  portion = no_segment;
   whole = refl;
   so_far = record {
     open_is = opened;
@@ -202,24 +202,24 @@ first_mended text bytes rest front place foreign_len new cut at len opened writt
   };
 }
 
--- the stretches of a text from its first start code on
-pub first_stretches : (text front rest : List ℕ) → cut_of text ≡ record { front = front; rest = (cut_of rest).front ∷ (cut_of rest).rest }
-    → stretches_of text ≡ stretches_from (length front) rest
-first_stretches text front rest cut = ap (λ c. stretches_at (length c.front) c.rest) cut
+-- the segments of a text from its first start code on
+pub first_segments : (text front rest : List ℕ) → cut_of text ≡ record { front = front; rest = (cut_of rest).front ∷ (cut_of rest).rest }
+    → segments_of text ≡ segments_from (length front) rest
+first_segments text front rest cut = ap (λ c. segments_at (length c.front) c.rest) cut
 
 -- the first piece is taken
 pub first_left : (text written left rest front : List ℕ) (said : List LeftOut) (m : Mending)
     → cut_of left ≡ record { front = front; rest = (cut_of rest).front ∷ (cut_of rest).rest }
     → (text ≡ left) × (written ≡ []) × (said ≡ [])
     → ((bytes : List ℕ) (others : List (List ℕ)) → cut_of text ≡ record { front = front; rest = bytes ∷ others }
-    → IsMendedTo text [] [] (stretches_of text) m)
-    → IsMendedTo text written said (stretches_from (length front) rest) m
+    → IsMendedTo text [] [] (segments_of text) m)
+    → IsMendedTo text written said (segments_from (length front) rest) m
 first_left text written left rest front said m cut (same, none, nothing) begins =
     let there : cut_of text ≡ record { front = front; rest = (cut_of rest).front ∷ (cut_of rest).rest } = ap cut_of same ∙ cut in
     let begun = begins (cut_of rest).front (cut_of rest).rest there in
-    subst (λ (w : List ℕ). IsMendedTo text w said (stretches_from (length front) rest) m) (sym none)
-    (subst (λ (s : List LeftOut). IsMendedTo text [] s (stretches_from (length front) rest) m) (sym nothing)
-    (subst (λ (l : List Stretch). IsMendedTo text [] [] l m) (first_stretches text front rest there) begun))
+    subst (λ (w : List ℕ). IsMendedTo text w said (segments_from (length front) rest) m) (sym none)
+    (subst (λ (s : List LeftOut). IsMendedTo text [] s (segments_from (length front) rest) m) (sym nothing)
+    (subst (λ (l : List Segment). IsMendedTo text [] [] l m) (first_segments text front rest there) begun))
 
 -- nothing comes behind
 pub none_behind : (text written left : List ℕ) (said : List LeftOut) (m : Mender) → IsMendedUpTo text written said left m
@@ -256,7 +256,7 @@ module _ (text written : List ℕ) (said : List LeftOut) (done : List Portion) (
         ap (λ l. l ++ bytes) (so_far.unwritten before) ∙ none before;
   }
 
-pub mended_given : (text written : List ℕ) (said : List LeftOut) (left : List Stretch) (old new : Mending) (bytes : List ℕ)
+pub mended_given : (text written : List ℕ) (said : List LeftOut) (left : List Segment) (old new : Mending) (bytes : List ℕ)
     → IsMendedTo text written said left old → new.portion ≡ old.portion → new.stays ≡ old.stays → new.left_out.items ≡ []
     → bytes ++ new.bytes.items ≡ old.bytes.items → (old.stays ≡ false → bytes ≡ [])
     → IsMendedTo text (written ++ bytes) (said ++ old.left_out.items) left new
@@ -268,7 +268,7 @@ mended_given text written said left old new bytes h portion_is stay told_is byte
 }
 
 -- a text at its end
-module _ (text written : List ℕ) (said : List LeftOut) (portions : List Portion) (whole : portions_of (stretches_of text) ≡ portions)
+module _ (text written : List ℕ) (said : List LeftOut) (portions : List Portion) (whole : portions_of (segments_of text) ≡ portions)
     (m : Mending) (h : IsEnded text written said portions m) where
   mended_some : m.stays ≡ true → written ++ m.bytes.items ≡ mended text
   unfolding mended

@@ -1,7 +1,7 @@
 -- Bytes without the zeros at their end.
 use Rattle.std.proofs.Common.{◌≡◌, ◌≢◌, ℕ, zero, suc, ◌+◌, ◌-◌, ◌<◌, ◌≤◌, List, [], ◌∷◌, ◌++◌, length, take, get_or, replicate, arith, refl, ap, sym, ◌∙◌, length-append}
 use Rattle.std.proofs.lemmas.List.{length-replicate, take_more}
-use Rattle.stream_mending.specs.Stretches.{before_others, trimmed, end_zeros}
+use Rattle.stream_mending.specs.Segments.{before_others, trimmed, end_zeros}
 
 -- with a zero more
 pub trimmed-zero : (bytes : List ℕ) → trimmed (bytes ++ 0 ∷ []) ≡ trimmed bytes

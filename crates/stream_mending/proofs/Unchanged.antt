@@ -15,13 +15,13 @@ use Rattle.slice_header.specs.Fronts.{slice_type_at}
 use Rattle.access_unit.specs.Sets.{is_sps, is_pps, sps_of, pps_of, is_unreadable}
 use Rattle.access_unit.specs.Refusals.{is_refused_type, is_switching, is_inter, is_idr, is_not_reference, has_slice, mixes_idr, mixes_reference, header_rows, set_rows, order_rows, refusal_at, first_refusal, refusal_of, most_bytes}
 use Rattle.access_unit.specs.Answers.{IsAccepted}
-use Rattle.access_unit.specs.Rooms.{IsStream}
+use Rattle.access_unit.specs.StreamUnits.{IsStream}
 use Rattle.access_unit.specs.declared.refused.Refused.{Refused}
-use Rattle.stream_mending.specs.Stretches.{Stretch, cut_of, foreign, trimmed, end_zeros, stretch_at, stretches_at, stretches_of}
+use Rattle.stream_mending.specs.Segments.{Segment, cut_of, foreign, trimmed, end_zeros, segment_at, segments_at, segments_of}
 use Rattle.stream_mending.specs.Faults.{has_forbidden, is_sound, fault_of, has_none}
-use Rattle.stream_mending.specs.Portions.{Portion, put, sound_units, units_of, slices_of, joint_of, joint_after, ended_by, goes_on_in, with_stretch, portions_from, portions_of, no_stretch, fits, most_slices}
-use Rattle.stream_mending.specs.Mended.{stretch_text, portion_text, stays, front_text, mended, told, told_front, told_bytes, told_for, told_stretch, told_size, told_portion}
-use Rattle.stream_mending.specs.Kept.{units_at}
+use Rattle.stream_mending.specs.Portions.{Portion, put, sound_units, units_of, slices_of, joint_of, joint_after, ended_by, goes_on_in, with_segment, portions_from, portions_of, no_segment, fits, most_slices}
+use Rattle.stream_mending.specs.Mended.{segment_text, portion_text, stays, front_text, mended, told, told_front, told_bytes, told_for, told_segment, told_size, told_portion}
+use Rattle.stream_mending.specs.StayingUnits.{units_at}
 use Rattle.stream_mending.specs.declared.joint.Joint.{Joint}
 use Rattle.stream_mending.specs.declared.joint.Joint.TheVariants.{Joins, Begins, NeedsDelimiter}
 use Rattle.stream_mending.specs.declared.why.Why.{Why}
@@ -127,11 +127,11 @@ module _ (before : List (List ℕ)) (unit : List ℕ) (is_unit : IsUnit unit) (n
           rw (filter-append is_slice before (unit ∷ [])) (rw e (omega (arith, below, length-append (filter is_slice before) (unit ∷ []))))
       cases false e = rw (filter-append is_slice before (unit ∷ [])) (rw (e, append-nil) few)
 
--- what the access units of such stretches are
-pub record AreParts (portions : List Portion) (stretches : List Stretch) (parts : List (List (List ℕ))) : Type 0 where
-  pub are : map (λ portion. sound_units portion.stretches) portions ≡ parts
+-- what the access units of such segments are
+pub record AreParts (portions : List Portion) (segments : List Segment) (parts : List (List (List ℕ))) : Type 0 where
+  pub are : map (λ portion. sound_units portion.segments) portions ≡ parts
   pub bare : All (λ portion. portion.is_delimited ≡ false) portions
-  pub sound : All (λ stretch. is_sound stretch.unit ≡ true) stretches
+  pub sound : All (λ segment. is_sound segment.unit ≡ true) segments
 
 -- the refusal of NAL units, of which some stand before
 refusal_split : (before units : List (List ℕ)) (unit : List ℕ) (others : List (List ℕ))
@@ -169,52 +169,52 @@ module _ (front : List (List ℕ)) (unit : List ℕ) (others : List (List ℕ)) 
       rw (take_at front (unit ∷ others) (length front) refl, get_or_at front unit others [] (length front) refl) at found in
       accepted_joins front unit (unit_is front are_units) here inside
 
--- the access unit that is begun, with the stretch that begins it
-abbrev begun_with : Stretch → Portion
-begun_with stretch = record { is_delimited = false; stretches = stretch ∷ [] }
+-- the access unit that is begun, with the segment that begins it
+abbrev begun_with : Segment → Portion
+begun_with segment = record { is_delimited = false; segments = segment ∷ [] }
 
 abbrev Bare : Portion → Type 0
 Bare portion = portion.is_delimited ≡ false
 
-abbrev Sound : Stretch → Type 0
-Sound stretch = is_sound stretch.unit ≡ true
+abbrev Sound : Segment → Type 0
+Sound segment = is_sound segment.unit ≡ true
 
--- where a stretch begins the next access unit
-begins_on : (stretches : List Stretch) (portion : Portion) (stretch : Stretch) (parts : List (List (List ℕ)))
-    → portion.is_delimited ≡ false → is_sound stretch.unit ≡ true → joint_of (slices_of portion) stretch.unit ≡ Begins
-    → AreParts (portions_from (begun_with stretch) stretches) stretches parts
-    → AreParts (portions_from portion (stretch ∷ stretches)) (stretch ∷ stretches) (sound_units portion.stretches ∷ parts)
-begins_on stretches portion stretch parts bare sound begins later =
-    let after : joint_after portion stretch ≡ Begins = rw sound begins in
-    let portions = step portion stretch stretches Begins after in
+-- where a segment begins the next access unit
+begins_on : (segments : List Segment) (portion : Portion) (segment : Segment) (parts : List (List (List ℕ)))
+    → portion.is_delimited ≡ false → is_sound segment.unit ≡ true → joint_of (slices_of portion) segment.unit ≡ Begins
+    → AreParts (portions_from (begun_with segment) segments) segments parts
+    → AreParts (portions_from portion (segment ∷ segments)) (segment ∷ segments) (sound_units portion.segments ∷ parts)
+begins_on segments portion segment parts bare sound begins later =
+    let after : joint_after portion segment ≡ Begins = rw sound begins in
+    let portions = step portion segment segments Begins after in
     record {
-      are = ap (map (λ p. sound_units p.stretches)) portions ∙ ap (λ l. sound_units portion.stretches ∷ l) later.are;
-      bare = subst (All Bare) (sym portions) (All-cons Bare portion (portions_from (begun_with stretch) stretches) bare later.bare);
-      sound = All-cons Sound stretch stretches sound later.sound;
+      are = ap (map (λ p. sound_units p.segments)) portions ∙ ap (λ l. sound_units portion.segments ∷ l) later.are;
+      bare = subst (All Bare) (sym portions) (All-cons Bare portion (portions_from (begun_with segment) segments) bare later.bare);
+      sound = All-cons Sound segment segments sound later.sound;
     }
 
 -- where it joins the one before it
-joins_on : (stretches : List Stretch) (portion : Portion) (stretch : Stretch) (parts : List (List (List ℕ)))
-    → is_sound stretch.unit ≡ true → joint_of (slices_of portion) stretch.unit ≡ Joins
-    → AreParts (portions_from (with_stretch portion stretch) stretches) stretches parts
-    → AreParts (portions_from portion (stretch ∷ stretches)) (stretch ∷ stretches) parts
-joins_on stretches portion stretch parts sound joins later =
-    let after : joint_after portion stretch ≡ Joins = rw sound joins in
-    let portions = step portion stretch stretches Joins after in
+joins_on : (segments : List Segment) (portion : Portion) (segment : Segment) (parts : List (List (List ℕ)))
+    → is_sound segment.unit ≡ true → joint_of (slices_of portion) segment.unit ≡ Joins
+    → AreParts (portions_from (with_segment portion segment) segments) segments parts
+    → AreParts (portions_from portion (segment ∷ segments)) (segment ∷ segments) parts
+joins_on segments portion segment parts sound joins later =
+    let after : joint_after portion segment ≡ Joins = rw sound joins in
+    let portions = step portion segment segments Joins after in
     record {
-      are = ap (map (λ p. sound_units p.stretches)) portions ∙ later.are;
+      are = ap (map (λ p. sound_units p.segments)) portions ∙ later.are;
       bare = subst (All Bare) (sym portions) later.bare;
-      sound = All-cons Sound stretch stretches sound later.sound;
+      sound = All-cons Sound segment segments sound later.sound;
     }
 
--- the access units of stretches whose NAL units are cut so, where these stand before in the first one
+-- the access units of segments whose NAL units are cut so, where these stand before in the first one
 abbrev Fine : List (List ℕ) → Type 0
 Fine part = All IsUnit part × (refusal_of part ≡ None)
 
-parts_on : (stretches : List Stretch) (portion : Portion) (front rest : List (List ℕ)) (parts : List (List (List ℕ)))
-    → sound_units portion.stretches ≡ front → portion.is_delimited ≡ false → units_at stretches ≡ rest ++ units_in parts
+parts_on : (segments : List Segment) (portion : Portion) (front rest : List (List ℕ)) (parts : List (List (List ℕ)))
+    → sound_units portion.segments ≡ front → portion.is_delimited ≡ false → units_at segments ≡ rest ++ units_in parts
     → AreAccessUnits ((front ++ rest) ∷ parts) → All Fine ((front ++ rest) ∷ parts)
-    → AreParts (portions_from portion stretches) stretches ((front ++ rest) ∷ parts)
+    → AreParts (portions_from portion segments) segments ((front ++ rest) ∷ parts)
 parts_on [] portion front [] [] is bare units cut fine = record {
   are = ap (λ l. l ∷ []) (is ∙ sym (append-nil front));
   bare = All-cons Bare portion [] bare (All-nil Bare);
@@ -223,37 +223,37 @@ parts_on [] portion front [] [] is bare units cut fine = record {
 parts_on [] portion front [] ([] ∷ parts) is bare units cut fine = absurd (omega (arith, cut.3.0))
 parts_on [] portion front [] ((unit ∷ part) ∷ parts) is bare units cut fine = cc
 parts_on [] portion front (unit ∷ rest) parts is bare units cut fine = cc
-parts_on (stretch ∷ stretches) portion front [] [] is bare units cut fine = cc
-parts_on (stretch ∷ stretches) portion front [] ([] ∷ parts) is bare units cut fine = absurd (omega (arith, cut.3.0))
-parts_on (stretch ∷ stretches) portion front [] ((unit ∷ part) ∷ parts) is bare units cut fine =
-    let head : stretch.unit ≡ unit = cc in
-    let tail : units_at stretches ≡ part ++ units_in parts = cc in
+parts_on (segment ∷ segments) portion front [] [] is bare units cut fine = cc
+parts_on (segment ∷ segments) portion front [] ([] ∷ parts) is bare units cut fine = absurd (omega (arith, cut.3.0))
+parts_on (segment ∷ segments) portion front [] ((unit ∷ part) ∷ parts) is bare units cut fine =
+    let head : segment.unit ≡ unit = cc in
+    let tail : units_at segments ≡ part ++ units_in parts = cc in
     let others = All-tail Fine (front ++ []) ((unit ∷ part) ∷ parts) fine in
     let next = All-head Fine (unit ∷ part) parts others in
-    let sound : is_sound stretch.unit ≡ true = ap is_sound head ∙ inner_sound [] unit part next.0 next.1 in
+    let sound : is_sound segment.unit ≡ true = ap is_sound head ∙ inner_sound [] unit part next.0 next.1 in
     let boundary : is_boundary front unit ≡ true = rw append-nil at cut.2 in
-    let begins : (has_slice (slices_of portion) && begins_access_unit stretch.unit) ≡ true =
+    let begins : (has_slice (slices_of portion) && begins_access_unit segment.unit) ≡ true =
     ap (λ u. has_slice (slices_of portion) && begins_access_unit u) head
     ∙ (ap (λ l. has_slice (filter is_slice l) && begins_access_unit unit) is
     ∙ (ap (λ b. b && begins_access_unit unit) (sym (any-slice front)) ∙ boundary)) in
-    let one : sound_units (stretch ∷ []) ≡ unit ∷ [] = sound_one stretch sound ∙ ap (λ u. u ∷ []) head in
-    let later = parts_on stretches (begun_with stretch) (unit ∷ []) part parts one refl tail cut.3 others in
-    rw append-nil (subst (λ l. AreParts (portions_from portion (stretch ∷ stretches)) (stretch ∷ stretches) (l ∷ (unit ∷ part) ∷ parts)) is
-    (begins_on stretches portion stretch ((unit ∷ part) ∷ parts) bare sound (begins_parts (slices_of portion) stretch.unit begins) later))
-parts_on (stretch ∷ stretches) portion front (unit ∷ rest) parts is bare units cut fine =
-    let head : stretch.unit ≡ unit = cc in
-    let tail : units_at stretches ≡ rest ++ units_in parts = cc in
+    let one : sound_units (segment ∷ []) ≡ unit ∷ [] = sound_one segment sound ∙ ap (λ u. u ∷ []) head in
+    let later = parts_on segments (begun_with segment) (unit ∷ []) part parts one refl tail cut.3 others in
+    rw append-nil (subst (λ l. AreParts (portions_from portion (segment ∷ segments)) (segment ∷ segments) (l ∷ (unit ∷ part) ∷ parts)) is
+    (begins_on segments portion segment ((unit ∷ part) ∷ parts) bare sound (begins_parts (slices_of portion) segment.unit begins) later))
+parts_on (segment ∷ segments) portion front (unit ∷ rest) parts is bare units cut fine =
+    let head : segment.unit ≡ unit = cc in
+    let tail : units_at segments ≡ rest ++ units_in parts = cc in
     let here = All-head Fine (front ++ unit ∷ rest) parts fine in
-    let sound : is_sound stretch.unit ≡ true = ap is_sound head ∙ inner_sound front unit rest here.0 here.1 in
-    let joins : joint_of (slices_of portion) stretch.unit ≡ Joins =
+    let sound : is_sound segment.unit ≡ true = ap is_sound head ∙ inner_sound front unit rest here.0 here.1 in
+    let joins : joint_of (slices_of portion) segment.unit ≡ Joins =
     ap (λ u. joint_of (slices_of portion) u) head ∙ (ap (λ l. joint_of (filter is_slice l) unit) is ∙ inner_joins front unit rest here.0 here.1 cut.1) in
-    let more : sound_units (with_stretch portion stretch).stretches ≡ front ++ unit ∷ [] =
-    units-kept portion stretch sound ∙ (ap (λ l. l ++ stretch.unit ∷ []) is ∙ ap (λ u. front ++ u ∷ []) head) in
+    let more : sound_units (with_segment portion segment).segments ≡ front ++ unit ∷ [] =
+    units-kept portion segment sound ∙ (ap (λ l. l ++ segment.unit ∷ []) is ∙ ap (λ u. front ++ u ∷ []) head) in
     let same : (front ++ unit ∷ []) ++ rest ≡ front ++ unit ∷ rest = append_assoc front (unit ∷ []) rest in
-    let later = parts_on stretches (with_stretch portion stretch) (front ++ unit ∷ []) rest parts more bare tail
+    let later = parts_on segments (with_segment portion segment) (front ++ unit ∷ []) rest parts more bare tail
     (subst (λ l. AreAccessUnits (l ∷ parts)) (sym same) cut) (subst (λ l. All Fine (l ∷ parts)) (sym same) fine) in
-    joins_on stretches portion stretch ((front ++ unit ∷ rest) ∷ parts) sound joins
-    (subst (λ l. AreParts (portions_from (with_stretch portion stretch) stretches) stretches (l ∷ parts)) same later)
+    joins_on segments portion segment ((front ++ unit ∷ rest) ∷ parts) sound joins
+    (subst (λ l. AreParts (portions_from (with_segment portion segment) segments) segments (l ∷ parts)) same later)
 
 -- how many slices an access unit has that isn't refused
 few_on : (front units : List (List ℕ)) → All IsUnit units → length (filter is_slice front) ≤ 256 → first_refusal front units ≡ None
@@ -274,13 +274,13 @@ few_on front (unit ∷ units) all few none =
     second_half (Some refused) p h = cc
 
 -- so an accepted access unit without a delimiter fits
-pub accepted_fits : (portion : Portion) (part : List (List ℕ)) → portion.is_delimited ≡ false → sound_units portion.stretches ≡ part
+pub accepted_fits : (portion : Portion) (part : List (List ℕ)) → portion.is_delimited ≡ false → sound_units portion.segments ≡ part
     → IsAccepted (joined part) part → All IsUnit part → fits portion ≡ true
 unfolding fits
 accepted_fits portion part bare is accepted all =
     let few = few_on [] part all (omega arith) accepted.sound in
     let slices : length (slices_of portion) ≤ most_slices = rw is few in
-    let units : units_of portion ≡ part = ap (λ b. put b ++ sound_units portion.stretches) bare ∙ is in
+    let units : units_of portion ≡ part = ap (λ b. put b ++ sound_units portion.segments) bare ∙ is in
     let short : length (joined (units_of portion)) ≤ most_bytes = rw units accepted.short in
     rw (le-leb (length (joined (units_of portion))) most_bytes short, le-leb (length (slices_of portion)) most_slices slices) refl
 
@@ -314,75 +314,75 @@ text_cut text (unit ∷ units) has =
       units_are = sym (ap (λ c. trimmed_all c.rest) (ap cut_of rest)) ∙ (units_cut has.rest (unit ∷ units) has.rest_is).1;
     }
 
-units_of_pieces : (place : ℕ) (pieces : List (List ℕ)) → units_at (stretches_at place pieces) ≡ trimmed_all pieces
+units_of_pieces : (place : ℕ) (pieces : List (List ℕ)) → units_at (segments_at place pieces) ≡ trimmed_all pieces
 units_of_pieces place [] = refl
 units_of_pieces place (bytes ∷ pieces) = ap (λ l. trimmed bytes ∷ l) (units_of_pieces (place + (3 + length bytes)) pieces)
 
--- sound stretches are written as they came
-sound_text : (place : ℕ) (pieces : List (List ℕ)) → All Sound (stretches_at place pieces)
-    → flat_map stretch_text (stretches_at place pieces) ≡ flat_map (λ bytes. start_code ++ bytes) pieces
+-- sound segments are written as they came
+sound_text : (place : ℕ) (pieces : List (List ℕ)) → All Sound (segments_at place pieces)
+    → flat_map segment_text (segments_at place pieces) ≡ flat_map (λ bytes. start_code ++ bytes) pieces
 sound_text place [] sound = refl
 sound_text place (bytes ∷ pieces) sound =
-    let here : is_sound (trimmed bytes) ≡ true = All-head Sound (stretch_at place bytes) (stretches_at (place + (3 + length bytes)) pieces) sound in
-    let later = sound_text (place + (3 + length bytes)) pieces (All-tail Sound (stretch_at place bytes) (stretches_at (place + (3 + length bytes)) pieces) sound) in
-    let text : stretch_text (stretch_at place bytes) ≡ start_code ++ bytes =
+    let here : is_sound (trimmed bytes) ≡ true = All-head Sound (segment_at place bytes) (segments_at (place + (3 + length bytes)) pieces) sound in
+    let later = sound_text (place + (3 + length bytes)) pieces (All-tail Sound (segment_at place bytes) (segments_at (place + (3 + length bytes)) pieces) sound) in
+    let text : segment_text (segment_at place bytes) ≡ start_code ++ bytes =
     rw here (append_assoc start_code (trimmed bytes) (replicate (end_zeros bytes) 0) ∙ ap (λ l. start_code ++ l) (sym (trimmed-zeros bytes))) in
-    ap (λ l. l ++ flat_map stretch_text (stretches_at (place + (3 + length bytes)) pieces)) text ∙ ap (λ l. (start_code ++ bytes) ++ l) later
+    ap (λ l. l ++ flat_map segment_text (segments_at (place + (3 + length bytes)) pieces)) text ∙ ap (λ l. (start_code ++ bytes) ++ l) later
 
--- the stretches of access units are all
-pub all_stretches : (stretches : List Stretch) (portion : Portion)
-    → flat_map (λ p. p.stretches) (portions_from portion stretches) ≡ portion.stretches ++ stretches
-all_stretches [] portion = refl
-all_stretches (stretch ∷ stretches) portion =
-    more (joint_after portion stretch) (λ next. all_stretches stretches next)
+-- the segments of access units are all
+pub all_segments : (segments : List Segment) (portion : Portion)
+    → flat_map (λ p. p.segments) (portions_from portion segments) ≡ portion.segments ++ segments
+all_segments [] portion = refl
+all_segments (segment ∷ segments) portion =
+    more (joint_after portion segment) (λ next. all_segments segments next)
   where
-    more : (joint : Joint) → ((next : Portion) → flat_map (λ p. p.stretches) (portions_from next stretches) ≡ next.stretches ++ stretches)
-        → flat_map (λ p. p.stretches) (ended_by joint portion ++ portions_from (with_stretch (goes_on_in joint portion) stretch) stretches)
-        ≡ portion.stretches ++ stretch ∷ stretches
-    more Joins later = later (with_stretch portion stretch) ∙ append_assoc portion.stretches (stretch ∷ []) stretches
-    more Begins later = ap (λ l. portion.stretches ++ l) (later (begun_with stretch))
+    more : (joint : Joint) → ((next : Portion) → flat_map (λ p. p.segments) (portions_from next segments) ≡ next.segments ++ segments)
+        → flat_map (λ p. p.segments) (ended_by joint portion ++ portions_from (with_segment (goes_on_in joint portion) segment) segments)
+        ≡ portion.segments ++ segment ∷ segments
+    more Joins later = later (with_segment portion segment) ∙ append_assoc portion.segments (segment ∷ []) segments
+    more Begins later = ap (λ l. portion.segments ++ l) (later (begun_with segment))
     more NeedsDelimiter later =
-        ap (λ l. portion.stretches ++ l) (later (record { is_delimited = true; stretches = stretch ∷ [] }))
+        ap (λ l. portion.segments ++ l) (later (record { is_delimited = true; segments = segment ∷ [] }))
 
 -- access units that fit, without delimiters
 abbrev Fits : Portion → Type 0
 Fits portion = fits portion ≡ true
 
 whole_texts : (portions : List Portion) → All Fits portions → All Bare portions
-    → flat_map portion_text portions ≡ flat_map stretch_text (flat_map (λ p. p.stretches) portions)
+    → flat_map portion_text portions ≡ flat_map segment_text (flat_map (λ p. p.segments) portions)
 whole_texts [] fit bare = refl
 whole_texts (portion ∷ portions) fit bare =
     let here : fits portion ≡ true = All-head Fits portion portions fit in
     let plain : portion.is_delimited ≡ false = All-head Bare portion portions bare in
-    let text : portion_text portion ≡ flat_map stretch_text portion.stretches =
-    rw here (ap (λ b. joined (put b) ++ flat_map stretch_text portion.stretches) plain) in
+    let text : portion_text portion ≡ flat_map segment_text portion.segments =
+    rw here (ap (λ b. joined (put b) ++ flat_map segment_text portion.segments) plain) in
     ap (λ l. l ++ flat_map portion_text portions) text
-    ∙ (ap (λ l. flat_map stretch_text portion.stretches ++ l) (whole_texts portions (All-tail Fits portion portions fit) (All-tail Bare portion portions bare))
-    ∙ sym (flat_map-append stretch_text portion.stretches (flat_map (λ p. p.stretches) portions)))
+    ∙ (ap (λ l. flat_map segment_text portion.segments ++ l) (whole_texts portions (All-tail Fits portion portions fit) (All-tail Bare portion portions bare))
+    ∙ sym (flat_map-append segment_text portion.segments (flat_map (λ p. p.segments) portions)))
 
 -- nothing is told of what is sound
-nothing_for : (stretch : Stretch) → is_sound stretch.unit ≡ true → told_stretch stretch ≡ []
-nothing_for stretch sound = cases (fault_of stretch.unit) sound
+nothing_for : (segment : Segment) → is_sound segment.unit ≡ true → told_segment segment ≡ []
+nothing_for segment sound = cases (fault_of segment.unit) sound
   where
-    cases : (o : Option Why) → has_none o ≡ true → told_for stretch o ≡ []
+    cases : (o : Option Why) → has_none o ≡ true → told_for segment o ≡ []
     cases None h = refl
     cases (Some why) h = absurd (false≢true h)
 
-nothing_told : (stretches : List Stretch) → All Sound stretches → flat_map told_stretch stretches ≡ []
+nothing_told : (segments : List Segment) → All Sound segments → flat_map told_segment segments ≡ []
 nothing_told [] sound = refl
-nothing_told (stretch ∷ stretches) sound =
-    ap (λ l. l ++ flat_map told_stretch stretches) (nothing_for stretch (All-head Sound stretch stretches sound))
-    ∙ nothing_told stretches (All-tail Sound stretch stretches sound)
+nothing_told (segment ∷ segments) sound =
+    ap (λ l. l ++ flat_map told_segment segments) (nothing_for segment (All-head Sound segment segments sound))
+    ∙ nothing_told segments (All-tail Sound segment segments sound)
 
-no_tales : (portions : List Portion) → All Fits portions → flat_map told_portion portions ≡ flat_map told_stretch (flat_map (λ p. p.stretches) portions)
+no_tales : (portions : List Portion) → All Fits portions → flat_map told_portion portions ≡ flat_map told_segment (flat_map (λ p. p.segments) portions)
 no_tales [] fit = refl
 no_tales (portion ∷ portions) fit =
     let here : fits portion ≡ true = All-head Fits portion portions fit in
     let size : told_size portion ≡ [] = rw here refl in
-    ap (λ l. (flat_map told_stretch portion.stretches ++ l) ++ flat_map told_portion portions) size
-    ∙ (ap (λ l. l ++ flat_map told_portion portions) (append-nil (flat_map told_stretch portion.stretches))
-    ∙ (ap (λ l. flat_map told_stretch portion.stretches ++ l) (no_tales portions (All-tail Fits portion portions fit))
-    ∙ sym (flat_map-append told_stretch portion.stretches (flat_map (λ p. p.stretches) portions))))
+    ap (λ l. (flat_map told_segment portion.segments ++ l) ++ flat_map told_portion portions) size
+    ∙ (ap (λ l. l ++ flat_map told_portion portions) (append-nil (flat_map told_segment portion.segments))
+    ∙ (ap (λ l. flat_map told_segment portion.segments ++ l) (no_tales portions (All-tail Fits portion portions fit))
+    ∙ sym (flat_map-append told_segment portion.segments (flat_map (λ p. p.segments) portions))))
 
 -- NAL units of a text are units
 all_units : (bytes : List ℕ) (units : List (List ℕ)) → AreUnits bytes units → All IsUnit units
@@ -398,13 +398,13 @@ all_fine (part ∷ parts) all =
     let here : IsAccepted (joined part) part = All-head Accepted part parts all in
     All-cons Fine part parts (all_units here.has.rest part here.has.rest_is, here.sound) (all_fine parts (All-tail Accepted part parts all))
 
-all_fit : (portions : List Portion) (parts : List (List (List ℕ))) → map (λ p. sound_units p.stretches) portions ≡ parts
+all_fit : (portions : List Portion) (parts : List (List (List ℕ))) → map (λ p. sound_units p.segments) portions ≡ parts
     → All Bare portions → All Accepted parts → All Fits portions
 all_fit [] parts are bare all = All-nil Fits
 all_fit (portion ∷ portions) [] are bare all = cc
 all_fit (portion ∷ portions) (part ∷ parts) are bare all =
-    let head : sound_units portion.stretches ≡ part = cc in
-    let tail : map (λ (p : Portion). sound_units p.stretches) portions ≡ parts = cc in
+    let head : sound_units portion.segments ≡ part = cc in
+    let tail : map (λ (p : Portion). sound_units p.segments) portions ≡ parts = cc in
     let here : IsAccepted (joined part) part = All-head Accepted part parts all in
     All-cons Fits portion portions
     (accepted_fits portion part (All-head Bare portion portions bare) head here (all_units here.has.rest part here.has.rest_is))
@@ -412,12 +412,12 @@ all_fit (portion ∷ portions) (part ∷ parts) are bare all =
 
 -- some of them has a NAL unit
 some_stays : (portions : List Portion) (part : List (List ℕ)) (parts : List (List (List ℕ)))
-    → map (λ p. sound_units p.stretches) portions ≡ part ∷ parts → All Bare portions → All Fits portions → 0 < length part
+    → map (λ p. sound_units p.segments) portions ≡ part ∷ parts → All Bare portions → All Fits portions → 0 < length part
     → list_any stays portions ≡ true
 some_stays [] part parts are bare fit some = cc
 some_stays (portion ∷ portions) part parts are bare fit some =
-    let head : sound_units portion.stretches ≡ part = cc in
-    let units : units_of portion ≡ part = ap (λ b. put b ++ sound_units portion.stretches) (All-head Bare portion portions bare) ∙ head in
+    let head : sound_units portion.segments ≡ part = cc in
+    let units : units_of portion ≡ part = ap (λ b. put b ++ sound_units portion.segments) (All-head Bare portion portions bare) ∙ head in
     let filled : ltb 0 (length (units_of portion)) ≡ true = lt-ltb 0 (length (units_of portion)) (rw units some) in
     rw (All-head Fits portion portions fit, filled) refl
 
@@ -434,12 +434,12 @@ front_zeros count =
 front_untold : (count : ℕ) (piece : List ℕ) (pieces : List (List ℕ)) → told_front (replicate count 0) (piece ∷ pieces) ≡ []
 front_untold count piece pieces = ap (λ l. told_bytes (zero_run (replicate count 0)) (length l) NotNalUnit) (no_foreign count)
 
--- what the access units of a stream's stretches are
+-- what the access units of a stream's segments are
 record IsAll (text : List ℕ) (portions : List Portion) : Type 0 where
-  stretches_are : flat_map (λ p. p.stretches) portions ≡ stretches_of text
+  segments_are : flat_map (λ p. p.segments) portions ≡ segments_of text
   fit : All Fits portions
   bare : All Bare portions
-  sound : All Sound (stretches_of text)
+  sound : All Sound (segments_of text)
   stay : list_any stays portions ≡ true
 
 -- a stream has an access unit
@@ -452,43 +452,43 @@ module _ (text : List ℕ) (parts : List (List (List ℕ))) (stream : IsStream t
   pub cut : IsCutInto text stream.has.units
   cut = text_cut text stream.has.units stream.has.has
 
-  units_there : units_at (stretches_of text) ≡ stream.has.units
+  units_there : units_at (segments_of text) ≡ stream.has.units
   units_there =
-      ap (λ c. units_at (stretches_at (length c.front) c.rest)) cut.is
+      ap (λ c. units_at (segments_at (length c.front) c.rest)) cut.is
       ∙ (units_of_pieces (length (replicate cut.count 0)) (cut.piece ∷ cut.pieces) ∙ cut.units_are)
 
-  are_parts : AreParts (portions_of (stretches_of text)) (stretches_of text) parts
+  are_parts : AreParts (portions_of (segments_of text)) (segments_of text) parts
   are_parts =
       let first = first_part stream.has.units parts stream.has.cut.units_are stream.has.has.filled in
-      let units : units_at (stretches_of text) ≡ first.0 ++ units_in first.1 =
+      let units : units_at (segments_of text) ≡ first.0 ++ units_in first.1 =
       units_there ∙ (sym stream.has.cut.units_are ∙ ap units_in first.2) in
-      subst (λ l. AreParts (portions_of (stretches_of text)) (stretches_of text) l) (sym first.2)
-      (parts_on (stretches_of text) no_stretch [] first.0 first.1 refl refl units
+      subst (λ l. AreParts (portions_of (segments_of text)) (segments_of text) l) (sym first.2)
+      (parts_on (segments_of text) no_segment [] first.0 first.1 refl refl units
       (subst AreAccessUnits first.2 stream.has.cut.parts_are) (all_fine (first.0 ∷ first.1) (subst (All Accepted) first.2 stream.accepted)))
 
-  is_all : IsAll text (portions_of (stretches_of text))
+  is_all : IsAll text (portions_of (segments_of text))
   is_all =
       let first = first_part stream.has.units parts stream.has.cut.units_are stream.has.has.filled in
-      let fit = all_fit (portions_of (stretches_of text)) parts are_parts.are are_parts.bare stream.accepted in
+      let fit = all_fit (portions_of (segments_of text)) parts are_parts.are are_parts.bare stream.accepted in
       let filled : AreAccessUnits (first.0 ∷ first.1) = subst AreAccessUnits first.2 stream.has.cut.parts_are in
       record {
-        stretches_are = all_stretches (stretches_of text) no_stretch;
+        segments_are = all_segments (segments_of text) no_segment;
         fit = fit;
         bare = are_parts.bare;
         sound = are_parts.sound;
-        stay = some_stays (portions_of (stretches_of text)) first.0 first.1 (are_parts.are ∙ first.2) are_parts.bare fit filled.0;
+        stay = some_stays (portions_of (segments_of text)) first.0 first.1 (are_parts.are ∙ first.2) are_parts.bare fit filled.0;
       }
 
   pub stays_as_it_is : mended text ≡ text
   unfolding mended
   stays_as_it_is =
-      let portions = portions_of (stretches_of text) in
+      let portions = portions_of (segments_of text) in
       let place = length (replicate cut.count 0) in
       let pieces = cut.piece ∷ cut.pieces in
-      let stretches : stretches_of text ≡ stretches_at place pieces = ap (λ c. stretches_at (length c.front) c.rest) cut.is in
+      let segments : segments_of text ≡ segments_at place pieces = ap (λ c. segments_at (length c.front) c.rest) cut.is in
       let body : flat_map portion_text portions ≡ flat_map (λ bytes. start_code ++ bytes) pieces =
-      whole_texts portions is_all.fit is_all.bare ∙ (ap (flat_map stretch_text) (is_all.stretches_are ∙ stretches)
-      ∙ sound_text place pieces (subst (All Sound) stretches is_all.sound)) in
+      whole_texts portions is_all.fit is_all.bare ∙ (ap (flat_map segment_text) (is_all.segments_are ∙ segments)
+      ∙ sound_text place pieces (subst (All Sound) segments is_all.sound)) in
       let front : front_text (cut_of text).front ≡ replicate cut.count 0 =
       ap (λ c. front_text c.front) cut.is ∙ front_zeros cut.count in
       let whole : uncut (cut_of text) ≡ replicate cut.count 0 ++ flat_map (λ bytes. start_code ++ bytes) pieces = ap uncut cut.is in
@@ -498,11 +498,11 @@ module _ (text : List ℕ) (parts : List (List (List ℕ))) (stream : IsStream t
   pub nothing_left_out : told text ≡ []
   unfolding told
   nothing_left_out =
-      let portions = portions_of (stretches_of text) in
+      let portions = portions_of (segments_of text) in
       let front : told_front (cut_of text).front (cut_of text).rest ≡ [] =
       ap (λ c. told_front c.front c.rest) cut.is ∙ front_untold cut.count cut.piece cut.pieces in
       ap (λ l. l ++ flat_map told_portion portions) front
-      ∙ (no_tales portions is_all.fit ∙ (ap (flat_map told_stretch) is_all.stretches_are ∙ nothing_told (stretches_of text) is_all.sound))
+      ∙ (no_tales portions is_all.fit ∙ (ap (flat_map told_segment) is_all.segments_are ∙ nothing_told (segments_of text) is_all.sound))
 
 -- what was mended stays so
 nothing_twice : (l : List ℕ) → length l ≡ 0 → (mended l ≡ l) × (told l ≡ [])

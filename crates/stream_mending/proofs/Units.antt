@@ -9,9 +9,9 @@ use Rattle.annexb.specs.NalUnit.{IsUnit, is_slice, nal_unit_type, begins_at_macr
 use Rattle.annexb.specs.AccessUnits.{precedes_slices, begins_access_unit, is_boundary, IsWhole}
 use Rattle.access_unit.specs.Refusals.{has_slice, mixes_idr, mixes_reference, header_rows, set_rows, order_rows, refusal_at, first_refusal, refusal_of}
 use Rattle.access_unit.specs.declared.refused.Refused.{Refused}
-use Rattle.stream_mending.specs.Stretches.{Stretch}
+use Rattle.stream_mending.specs.Segments.{Segment}
 use Rattle.stream_mending.specs.Faults.{is_sound}
-use Rattle.stream_mending.specs.Portions.{Portion, put, sound_units, units_of, slices_of, joint_of, with_stretch, most_slices}
+use Rattle.stream_mending.specs.Portions.{Portion, put, sound_units, units_of, slices_of, joint_of, with_segment, most_slices}
 use Rattle.stream_mending.specs.declared.joint.Joint.TheVariants.{Joins}
 use Rattle.stream_mending.proofs.Portions.{units-left_out, slices-left_out, units-kept, slices-kept}
 use Rattle.stream_mending.proofs.Sound.{IsSound, sound_parts, DoesJoin, joins_parts}
@@ -77,70 +77,70 @@ whole-push part unit whole none at below = ⊎_elim
     (cases_lt at (length part))
 
 -- a NAL unit that stays is one
-abbrev pub Kept : Stretch → Type 0
-Kept stretch = is_sound stretch.unit ≡ true → IsUnit stretch.unit
+abbrev pub Kept : Segment → Type 0
+Kept segment = is_sound segment.unit ≡ true → IsUnit segment.unit
 
 -- what holds of an access unit so far
 pub record IsGood (portion : Portion) : Type 0 where
   pub whole : IsWhole (units_of portion)
   pub fine : length (slices_of portion) ≤ most_slices → refusal_of (units_of portion) ≡ None
-  pub kept : AreUnitsKept portion.stretches
+  pub kept : AreUnitsKept portion.segments
 
 -- the slices of an access unit, a delimiter aside
 pub slices-units : (portion : Portion) → filter is_slice (units_of portion) ≡ slices_of portion
 slices-units portion =
-    filter-append is_slice (put portion.is_delimited) (sound_units portion.stretches) ∙ none portion.is_delimited
+    filter-append is_slice (put portion.is_delimited) (sound_units portion.segments) ∙ none portion.is_delimited
   where
     none : (b : Bool) → filter is_slice (put b) ++ slices_of portion ≡ slices_of portion
     none true = refl
     none false = refl
 
 -- the NAL units with one more
-pub units_push : (portion : Portion) (stretch : Stretch) → is_sound stretch.unit ≡ true
-    → units_of (with_stretch portion stretch) ≡ units_of portion ++ stretch.unit ∷ []
-units_push portion stretch sound =
-    ap (λ l. put portion.is_delimited ++ l) (units-kept portion stretch sound)
-    ∙ sym (append_assoc (put portion.is_delimited) (sound_units portion.stretches) (stretch.unit ∷ []))
+pub units_push : (portion : Portion) (segment : Segment) → is_sound segment.unit ≡ true
+    → units_of (with_segment portion segment) ≡ units_of portion ++ segment.unit ∷ []
+units_push portion segment sound =
+    ap (λ l. put portion.is_delimited ++ l) (units-kept portion segment sound)
+    ∙ sym (append_assoc (put portion.is_delimited) (sound_units portion.segments) (segment.unit ∷ []))
 
-module _ (portion : Portion) (stretch : Stretch) (good : IsGood portion) (unit_kept : is_sound stretch.unit ≡ true → IsUnit stretch.unit) where
-  kept_more : AreUnitsKept (with_stretch portion stretch).stretches
-  kept_more = All-append Kept portion.stretches (stretch ∷ []) good.kept (All-cons Kept stretch [] unit_kept (All-nil Kept))
+module _ (portion : Portion) (segment : Segment) (good : IsGood portion) (unit_kept : is_sound segment.unit ≡ true → IsUnit segment.unit) where
+  kept_more : AreUnitsKept (with_segment portion segment).segments
+  kept_more = All-append Kept portion.segments (segment ∷ []) good.kept (All-cons Kept segment [] unit_kept (All-nil Kept))
 
-  pub good_left_out : is_sound stretch.unit ≡ false → IsGood (with_stretch portion stretch)
+  pub good_left_out : is_sound segment.unit ≡ false → IsGood (with_segment portion segment)
   good_left_out unsound =
-      let units : units_of (with_stretch portion stretch) ≡ units_of portion =
-      ap (λ l. put portion.is_delimited ++ l) (units-left_out portion stretch unsound) in
+      let units : units_of (with_segment portion segment) ≡ units_of portion =
+      ap (λ l. put portion.is_delimited ++ l) (units-left_out portion segment unsound) in
       record {
         whole = subst IsWhole (sym units) good.whole;
-        fine = λ few. ap refusal_of units ∙ good.fine (rw (slices-left_out portion stretch unsound) at few);
+        fine = λ few. ap refusal_of units ∙ good.fine (rw (slices-left_out portion segment unsound) at few);
         kept = kept_more;
       }
 
-  pub good_kept : is_sound stretch.unit ≡ true → joint_of (slices_of portion) stretch.unit ≡ Joins → IsGood (with_stretch portion stretch)
+  pub good_kept : is_sound segment.unit ≡ true → joint_of (slices_of portion) segment.unit ≡ Joins → IsGood (with_segment portion segment)
   good_kept sound joint =
-      let joins = joins_parts (slices_of portion) stretch.unit joint in
-      let units = units_push portion stretch sound in
-      let boundary : is_boundary (units_of portion) stretch.unit ≡ false =
-      ap (λ b. b && begins_access_unit stretch.unit) (any-slice (units_of portion) ∙ ap has_slice (slices-units portion)) ∙ joins.inside in
+      let joins = joins_parts (slices_of portion) segment.unit joint in
+      let units = units_push portion segment sound in
+      let boundary : is_boundary (units_of portion) segment.unit ≡ false =
+      ap (λ b. b && begins_access_unit segment.unit) (any-slice (units_of portion) ∙ ap has_slice (slices-units portion)) ∙ joins.inside in
       record {
-        whole = subst IsWhole (sym units) (whole-push (units_of portion) stretch.unit good.whole boundary);
+        whole = subst IsWhole (sym units) (whole-push (units_of portion) segment.unit good.whole boundary);
         fine = λ few.
-            let here = rw (slices-kept portion stretch sound) at few in
+            let here = rw (slices-kept portion segment sound) at few in
             ap refusal_of units
-            ∙ refusal-push [] (units_of portion) stretch.unit
-            (good.fine (omega (arith, here, length-append (slices_of portion) (filter is_slice (stretch.unit ∷ [])))))
-            (refusal_at-none (units_of portion) stretch.unit (sound_parts stretch.unit sound)
+            ∙ refusal-push [] (units_of portion) segment.unit
+            (good.fine (omega (arith, here, length-append (slices_of portion) (filter is_slice (segment.unit ∷ [])))))
+            (refusal_at-none (units_of portion) segment.unit (sound_parts segment.unit sound)
             (rw (slices-units portion) joins)
-            (rw (slices-units portion) (few_slices (is_slice stretch.unit) refl here)));
+            (rw (slices-units portion) (few_slices (is_slice segment.unit) refl here)));
         kept = kept_more;
       }
     where
-      few_slices : (b : Bool) → is_slice stretch.unit ≡ b
-          → length (slices_of portion ++ filter is_slice (stretch.unit ∷ [])) ≤ most_slices
-          → (is_slice stretch.unit && leb 256 (length (slices_of portion))) ≡ false
+      few_slices : (b : Bool) → is_slice segment.unit ≡ b
+          → length (slices_of portion ++ filter is_slice (segment.unit ∷ [])) ≤ most_slices
+          → (is_slice segment.unit && leb 256 (length (slices_of portion))) ≡ false
       few_slices true e few =
-          let here : length (slices_of portion ++ stretch.unit ∷ []) ≤ 256 = rw e at few in
-          rw e (not_leb (length (slices_of portion)) (omega (arith, here, length-append (slices_of portion) (stretch.unit ∷ []))))
+          let here : length (slices_of portion ++ segment.unit ∷ []) ≤ 256 = rw e at few in
+          rw e (not_leb (length (slices_of portion)) (omega (arith, here, length-append (slices_of portion) (segment.unit ∷ []))))
         where
           not_leb : (n : ℕ) → n < 256 → leb 256 n ≡ false
           not_leb n below = lt-leb 256 n below

@@ -12,12 +12,12 @@ use Rattle.access_unit.specs.Coded.{HasRest}
 use Rattle.access_unit.specs.Refusals.{most_bytes}
 use Rattle.access_unit.specs.Answers.{IsAccepted}
 use Rattle.access_unit.specs.Streams.{AreAccepted}
-use Rattle.access_unit.specs.Rooms.{IsStream}
-use Rattle.stream_mending.specs.Stretches.{Stretch, cut_of, foreign, stretches_of}
+use Rattle.access_unit.specs.StreamUnits.{IsStream}
+use Rattle.stream_mending.specs.Segments.{Segment, cut_of, foreign, segments_of}
 use Rattle.stream_mending.specs.Faults.{is_sound}
-use Rattle.stream_mending.specs.Portions.{Portion, put, delimiter, sound_units, units_of, slices_of, fits, most_slices, no_stretch, portions_of}
-use Rattle.stream_mending.specs.Mended.{stretch_text, whole_text, portion_text, stays, front_text, mended}
-use Rattle.stream_mending.proofs.Rebuilt.{AreUnitsKept, AreUnitsKept-stretches, HasRest-zeros, HasRest-unit, HasRest-stretches}
+use Rattle.stream_mending.specs.Portions.{Portion, put, delimiter, sound_units, units_of, slices_of, fits, most_slices, no_segment, portions_of}
+use Rattle.stream_mending.specs.Mended.{segment_text, whole_text, portion_text, stays, front_text, mended}
+use Rattle.stream_mending.proofs.Rebuilt.{AreUnitsKept, AreUnitsKept-segments, HasRest-zeros, HasRest-unit, HasRest-segments}
 use Rattle.stream_mending.proofs.Units.{IsGood, Kept}
 use Rattle.stream_mending.proofs.Linked.{IsUnit-delimiter, good_none, Portions, portions_good, parts_of, parts_are}
 
@@ -30,18 +30,18 @@ module _ (portion : Portion) (text : List ℕ) (units : List (List ℕ)) (good :
   whole_rest : HasRest (whole_text portion ++ text) (units_of portion ++ units)
   whole_rest = by_put portion.is_delimited
     where
-      tail : HasRest (flat_map stretch_text portion.stretches ++ text) (sound_units portion.stretches ++ units)
-      tail = HasRest-stretches portion.stretches text units good.kept has
+      tail : HasRest (flat_map segment_text portion.segments ++ text) (sound_units portion.segments ++ units)
+      tail = HasRest-segments portion.segments text units good.kept has
 
-      by_put : (b : Bool) → HasRest ((joined (put b) ++ flat_map stretch_text portion.stretches) ++ text) ((put b ++ sound_units portion.stretches) ++ units)
-      by_put true = rw append_assoc (HasRest-unit delimiter (flat_map stretch_text portion.stretches ++ text) (sound_units portion.stretches ++ units) IsUnit-delimiter tail)
+      by_put : (b : Bool) → HasRest ((joined (put b) ++ flat_map segment_text portion.segments) ++ text) ((put b ++ sound_units portion.segments) ++ units)
+      by_put true = rw append_assoc (HasRest-unit delimiter (flat_map segment_text portion.segments ++ text) (sound_units portion.segments ++ units) IsUnit-delimiter tail)
       by_put false = tail
 
-zeros_rest : (stretches : List Stretch) (text : List ℕ) (units : List (List ℕ)) → HasRest text units
-    → HasRest (flat_map (λ stretch. replicate stretch.zeros 0) stretches ++ text) units
+zeros_rest : (segments : List Segment) (text : List ℕ) (units : List (List ℕ)) → HasRest text units
+    → HasRest (flat_map (λ segment. replicate segment.zeros 0) segments ++ text) units
 zeros_rest [] text units has = has
-zeros_rest (stretch ∷ stretches) text units has =
-    rw append_assoc (HasRest-zeros stretch.zeros (flat_map (λ s. replicate s.zeros 0) stretches ++ text) units (zeros_rest stretches text units has))
+zeros_rest (segment ∷ segments) text units has =
+    rw append_assoc (HasRest-zeros segment.zeros (flat_map (λ s. replicate s.zeros 0) segments ++ text) units (zeros_rest segments text units has))
 
 -- of all
 portions_rest : (portions : List Portion) → All IsGood portions → HasRest (flat_map portion_text portions) (units_in (parts_of portions))
@@ -51,23 +51,23 @@ portions_rest (portion ∷ portions) good = cases (portions_rest portions (All-t
     cases : HasRest (flat_map portion_text portions) (units_in (parts_of portions)) → (b : Bool) → fits portion ≡ b → HasRest (flat_map portion_text (portion ∷ portions)) (units_in (parts_of (portion ∷ portions)))
     cases later true fit =
         rw fit (whole_rest portion (flat_map portion_text portions) (units_in (parts_of portions)) (All-head IsGood portion portions good) later)
-    cases later false fit = rw fit (zeros_rest portion.stretches (flat_map portion_text portions) (units_in (parts_of portions)) later)
+    cases later false fit = rw fit (zeros_rest portion.segments (flat_map portion_text portions) (units_in (parts_of portions)) later)
 
 -- the NAL units of an access unit are units
 units_are : (portion : Portion) → IsGood portion → All IsUnit (units_of portion)
-units_are portion good = All-append IsUnit (put portion.is_delimited) (sound_units portion.stretches) (of_put portion.is_delimited) (of_stretches portion.stretches good.kept)
+units_are portion good = All-append IsUnit (put portion.is_delimited) (sound_units portion.segments) (of_put portion.is_delimited) (of_segments portion.segments good.kept)
   where
     of_put : (b : Bool) → All IsUnit (put b)
     of_put true = All-cons IsUnit delimiter [] IsUnit-delimiter (All-nil IsUnit)
     of_put false = All-nil IsUnit
 
-    of_stretches : (stretches : List Stretch) → AreUnitsKept stretches → All IsUnit (sound_units stretches)
-    of_stretches [] kept = All-nil IsUnit
-    of_stretches (stretch ∷ stretches) kept = cases (of_stretches stretches (All-tail Kept stretch stretches kept)) (is_sound stretch.unit) refl
+    of_segments : (segments : List Segment) → AreUnitsKept segments → All IsUnit (sound_units segments)
+    of_segments [] kept = All-nil IsUnit
+    of_segments (segment ∷ segments) kept = cases (of_segments segments (All-tail Kept segment segments kept)) (is_sound segment.unit) refl
       where
-        cases : All IsUnit (sound_units stretches) → (b : Bool) → is_sound stretch.unit ≡ b → All IsUnit (sound_units (stretch ∷ stretches))
+        cases : All IsUnit (sound_units segments) → (b : Bool) → is_sound segment.unit ≡ b → All IsUnit (sound_units (segment ∷ segments))
         cases later true e =
-            rw e (All-cons IsUnit stretch.unit (sound_units stretches) (All-head Kept stretch stretches kept e) later)
+            rw e (All-cons IsUnit segment.unit (sound_units segments) (All-head Kept segment segments kept e) later)
         cases later false e = rw e later
 
 -- one that fits is accepted
@@ -131,16 +131,16 @@ some_units [] h = absurd (false≢true h)
 some_units (portion ∷ portions) h = some_more portion portions (some_units portions) (fits portion) refl h
 
 -- the access units of a text
-portions_in : (text : List ℕ) → Portions no_stretch (stretches_of text)
-portions_in text = portions_good (stretches_of text) no_stretch (good_none false) (AreUnitsKept-stretches (length (cut_of text).front) (cut_of text).rest)
+portions_in : (text : List ℕ) → Portions no_segment (segments_of text)
+portions_in text = portions_good (segments_of text) no_segment (good_none false) (AreUnitsKept-segments (length (cut_of text).front) (cut_of text).rest)
 
 -- what is written is a stream
-module _ (text : List ℕ) (some : list_any stays (portions_of (stretches_of text)) ≡ true) where
-  portions : Portions no_stretch (stretches_of text)
+module _ (text : List ℕ) (some : list_any stays (portions_of (segments_of text)) ≡ true) where
+  portions : Portions no_segment (segments_of text)
   portions = portions_in text
 
   abbrev pub all : List Portion
-  all = portions_of (stretches_of text)
+  all = portions_of (segments_of text)
 
   pub mended_is : mended text ≡ front_text (cut_of text).front ++ flat_map portion_text all
   unfolding mended
@@ -181,14 +181,14 @@ module _ (text : List ℕ) (some : list_any stays (portions_of (stretches_of tex
       }
 
 -- what is written is nothing where no NAL unit stays
-pub nothing_mended : (text : List ℕ) → list_any stays (portions_of (stretches_of text)) ≡ false → mended text ≡ []
+pub nothing_mended : (text : List ℕ) → list_any stays (portions_of (segments_of text)) ≡ false → mended text ≡ []
 unfolding mended
 nothing_mended text none = rw none refl
 
 -- so some bytes are a stream
 pub stream_of_some : (text : List ℕ) → 0 < length (mended text) → (parts : List (List (List ℕ))) × IsStream (mended text) parts
-stream_of_some text some = cases (list_any stays (portions_of (stretches_of text))) refl
+stream_of_some text some = cases (list_any stays (portions_of (segments_of text))) refl
   where
-    cases : (b : Bool) → list_any stays (portions_of (stretches_of text)) ≡ b → (parts : List (List (List ℕ))) × IsStream (mended text) parts
-    cases true any = (parts_of (portions_of (stretches_of text)), mended_stream text any)
+    cases : (b : Bool) → list_any stays (portions_of (segments_of text)) ≡ b → (parts : List (List (List ℕ))) × IsStream (mended text) parts
+    cases true any = (parts_of (portions_of (segments_of text)), mended_stream text any)
     cases false none = absurd (omega (arith, ap length (nothing_mended text none)))

@@ -1,4 +1,4 @@
-pub mod Stretches
+pub mod Segments
 pub mod Pieces
 pub mod Faults
 pub mod Portions
@@ -6,4 +6,4 @@ pub mod Mended
 pub mod Told
 pub mod OpenPortions
 pub mod Mending
-pub mod Kept
+pub mod StayingUnits

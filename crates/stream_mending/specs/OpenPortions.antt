@@ -21,8 +21,8 @@ IsFirstOf (slice ∷ slices) first = first ≡ Some (first_slice slice)
 pub record IsOpen (portion : Portion) (open_portion : OpenPortion) : Type 0 where
   pub text_is : open_portion.text.items ≡ whole_text portion
   pub zeros_are : replicate open_portion.zeros 0 ≡ zeros_text portion
-  pub bytes_are : open_portion.bytes ≡ length (joined (sound_units portion.stretches))
-  pub place_is : open_portion.place ≡ first_place portion.stretches
+  pub bytes_are : open_portion.bytes ≡ length (joined (sound_units portion.segments))
+  pub place_is : open_portion.place ≡ first_place portion.segments
   pub slices_are : open_portion.slices ≡ length (slices_of portion)
   pub first_is : IsFirstOf (slices_of portion) open_portion.first
   pub delimited : open_portion.is_delimited ≡ portion.is_delimited

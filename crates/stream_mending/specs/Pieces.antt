@@ -1,7 +1,7 @@
 -- What stands around the first start code.
 use Rattle.std.specs.Prelude.{◌≡◌, ℕ, List, [], ◌∷◌, ◌++◌, Option, None, Some}
 use Rattle.annexb.specs.ByteStream.{start_code}
-use Rattle.stream_mending.specs.Stretches.{cut_of}
+use Rattle.stream_mending.specs.Segments.{cut_of}
 use Rattle.stream_mending.specs.declared.pieces.Piece.{Piece}
 
 -- these are the bytes before and after the first start code, whatever bytes may come behind them

@@ -1,15 +1,15 @@
 //! Why a NAL unit is left out by itself (7.3.1, 7.3.3, 7.4.1).
 
 ghost use Rattle.std.specs.Prelude.{◌≡◌, ◌≢◌, ◌+◌, ℕ, length, slice_index, IfOk, IsTrue};
-ghost use Rattle.annexb.specs.NalUnit.{is_slice};
+ghost use Rattle.annexb.specs.NalUnit.{is_slice, begins_forbidden};
 ghost use Rattle.access_unit.specs.Refusals.{is_switching, is_inter};
 ghost use Rattle.access_unit.specs.Sets.{sps_of, pps_of, is_unreadable};
-ghost use Rattle.stream_mending.specs.Faults.{fault_of, coded_fault, slice_fault};
+ghost use Rattle.stream_mending.specs.Faults.{fault_of, coded_fault, slice_fault, has_forbidden};
 
-use crate::forbidden::has_forbidden;
 use crate::why::Why;
 use annexb::{Nal, payload};
 use h264_types::slice_headers::SliceType;
+use memchr::memmem;
 use param_sets::{SetFault, read_pps, read_sps};
 use slice_header::slice_type;
 use std::alloc::{AllocError, Global};
@@ -99,4 +99,29 @@ fn is_inter(slice_type: Option<SliceType>) -> bool
     ensures { result ≡ is_inter slice_type }
 {
     matches!(slice_type, Some(SliceType::P | SliceType::B))
+}
+
+/// Whether the bytes hold one.
+pub(crate) fn has_forbidden(bytes: &[u8]) -> bool
+    ensures { result ≡ has_forbidden bytes.now }
+{
+    let mut at = 0;
+    while let Some(ahead) = memmem::find(bytes.split_at(at).1, &[0, 0]) {
+        if begins_forbidden(bytes.split_at(at + ahead).1) {
+            return true;
+        }
+        at += ahead + 1;
+    }
+    false
+}
+
+/// Whether the bytes begin with one.
+fn begins_forbidden(bytes: &[u8]) -> bool
+    ensures { result ≡ begins_forbidden bytes.now }
+{
+    match bytes {
+        [0, 0, 3, next, ..] => *next > 3,
+        [0, 0, third, ..] => *third < 3,
+        _ => false,
+    }
 }

@@ -2,10 +2,10 @@
 
 ghost use Rattle.std.specs.Prelude.{◌≡◌, ◌<◌, ◌≤◌, ◌*◌, [], ℕ, List, length};
 ghost use Rattle.annexb.specs.ByteStream.{HasUnits};
-ghost use Rattle.access_unit.specs.Rooms.{IsStream};
-ghost use Rattle.stream_mending.specs.Kept.{IsDrawnFrom, units_at};
+ghost use Rattle.access_unit.specs.StreamUnits.{IsStream};
+ghost use Rattle.stream_mending.specs.StayingUnits.{IsDrawnFrom, units_at};
 ghost use Rattle.stream_mending.specs.Mended.{mended, told};
-ghost use Rattle.stream_mending.specs.Stretches.{stretches_of};
+ghost use Rattle.stream_mending.specs.Segments.{segments_of};
 
 /// A stream that isn't refused, but for how many access units it has, is written as it is.
 pub fn a_stream_stays()
@@ -37,5 +37,5 @@ pub fn mended_is_short()
 /// The NAL units that are written are some of those that were given, in their order, and delimiters.
 pub fn kept_in_order()
     ensures { (text : List ℕ) (units : List (List ℕ)) → HasUnits (mended text) units
-        → IsDrawnFrom (units_at (stretches_of text)) units }
+        → IsDrawnFrom (units_at (segments_of text)) units }
 {}

@@ -8,14 +8,12 @@
 #![tactic(auto)]
 
 mod faults;
-mod forbidden;
 mod joint;
 mod laws;
 mod mender;
 mod mending;
 mod open_portion;
 mod pieces;
-mod trimming;
 mod why;
 
 pub use laws::{a_stream_stays, kept_in_order, mended_is_a_stream, mended_is_short, mended_stays};

@@ -1,7 +1,7 @@
 //! A stream that is mended as it comes.
 
 ghost use Rattle.std.specs.Prelude.{◌≡◌, ◌+◌, ◌++◌, ◌∷◌, [], ℕ, List, length, IfOk, OnOk};
-ghost use Rattle.stream_mending.specs.Stretches.{cut_of};
+ghost use Rattle.stream_mending.specs.Segments.{cut_of};
 ghost use Rattle.stream_mending.specs.Mended.{mended, told, told_bytes};
 ghost use Rattle.stream_mending.specs.declared.why.LeftOut.{LeftOut as Told};
 ghost use Rattle.stream_mending.specs.Mending.{IsMendedUpTo};

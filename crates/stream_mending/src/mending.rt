@@ -2,7 +2,7 @@
 
 ghost use Rattle.std.specs.Prelude.{◌≡◌, ◌++◌, ◌∷◌, [], ℕ, List, length, IfOk, OnOk, None, Some, true, false, if◌then◌else◌};
 ghost use Rattle.stream_mending.specs.Faults.{fault_of};
-ghost use Rattle.stream_mending.specs.Stretches.{Stretch, stretch_at, cut_of, stretches_of};
+ghost use Rattle.stream_mending.specs.Segments.{Segment, segment_at, cut_of, segments_of};
 ghost use Rattle.stream_mending.specs.Portions.{Portion, goes_on_in, ended_by, fits};
 ghost use Rattle.stream_mending.specs.Mended.{mended, told, told_bytes};
 ghost use Rattle.stream_mending.specs.declared.why.LeftOut.{LeftOut as Told};
@@ -11,7 +11,7 @@ ghost use Rattle.stream_mending.specs.Mending.{IsDone, IsEnded, IsMendedTo};
 use crate::faults::fault_of;
 use crate::joint::Joint;
 use crate::open_portion::{OpenPortion, push_zeros};
-use crate::trimming::{trimmed_len, zero_run};
+use crate::pieces::{trimmed_len, zero_run};
 use crate::why::{LeftOut, Why};
 use annexb::START_CODE;
 use std::alloc::{AllocError, Global};
@@ -58,7 +58,7 @@ impl Mending {
     pub(crate) fn new(alloc: Global, front: &[u8]) -> Result<Mending, AllocError>
         ensures { (text : List ℕ) (bytes : List ℕ) (rest : List (List ℕ))
             → cut_of text ≡ record { front = front.now; rest = bytes ∷ rest }
-            → IfOk result (IsMendedTo text [] [] (stretches_of text)) }
+            → IfOk result (IsMendedTo text [] [] (segments_of text)) }
     {
         let place = zero_run(front);
         let foreign = trimmed_len(front.split_at(place).1);
@@ -80,8 +80,8 @@ impl Mending {
         place: usize,
         bytes: &[u8],
     ) -> Result<(), AllocError>
-        ensures { (text written : List ℕ) (said : List Told) (left : List Stretch)
-            → IsMendedTo text written said (stretch_at place bytes.now ∷ left) self.old
+        ensures { (text written : List ℕ) (said : List Told) (left : List Segment)
+            → IsMendedTo text written said (segment_at place bytes.now ∷ left) self.old
             → OnOk result (IsMendedTo text written said left self.new) }
     {
         let len = trimmed_len(bytes);
@@ -101,7 +101,7 @@ impl Mending {
         why: Why,
     ) -> Result<(), AllocError>
         requires { fault_of unit.now ≡ Some why }
-        ensures { (text written : List ℕ) (said : List Told) (left : List Stretch)
+        ensures { (text written : List ℕ) (said : List Told) (left : List Segment)
             → IsMendedTo text written said
             (record { place = place; unit = unit.now; zeros = zeros } ∷ left) self.old
             → OnOk result (IsMendedTo text written said left self.new) }
@@ -119,7 +119,7 @@ impl Mending {
     /// Keeps a NAL unit, unless its access unit turns out to be too large.
     fn keep(&mut self, place: usize, unit: &[u8], zeros: usize) -> Result<(), AllocError>
         requires { fault_of unit.now ≡ None }
-        ensures { (text written : List ℕ) (said : List Told) (left : List Stretch)
+        ensures { (text written : List ℕ) (said : List Told) (left : List Segment)
             → IsMendedTo text written said
             (record { place = place; unit = unit.now; zeros = zeros } ∷ left) self.old
             → OnOk result (IsMendedTo text written said left self.new) }
@@ -147,7 +147,7 @@ impl Mending {
     fn begin(&mut self, is_delimited: bool) -> Result<(), AllocError>
         ensures { (text written : List ℕ) (said : List Told) (done : List Portion)
             (portion : Portion) → IsDone text written said done portion self.old → OnOk result (IsDone text written said
-            (done ++ portion ∷ []) (record { is_delimited = is_delimited; stretches = [] })
+            (done ++ portion ∷ []) (record { is_delimited = is_delimited; segments = [] })
             self.new) }
     {
         self.end()?;
@@ -205,7 +205,7 @@ impl Mending {
     /// What can be written and told; it is another's then. No zeros are written before a NAL unit
     /// stays.
     pub(crate) fn drain(&mut self, alloc: Global) -> Mended
-        ensures { (text written : List ℕ) (said : List Told) (left : List Stretch)
+        ensures { (text written : List ℕ) (said : List Told) (left : List Segment)
             → IsMendedTo text written said left self.old → IsMendedTo text
             (written ++ result.bytes.items) (said ++ result.left_out.items) left self.new }
     {

@@ -5,9 +5,9 @@ ghost use Rattle.std.specs.List.{filter};
 ghost use Rattle.annexb.specs.ByteStream.{joined};
 ghost use Rattle.annexb.specs.NalUnit.{is_slice};
 ghost use Rattle.access_unit.specs.Refusals.{most_bytes};
-ghost use Rattle.stream_mending.specs.Stretches.{Stretch};
+ghost use Rattle.stream_mending.specs.Segments.{Segment};
 ghost use Rattle.stream_mending.specs.Faults.{is_sound};
-ghost use Rattle.stream_mending.specs.Portions.{Portion, put, no_stretch, with_stretch, units_of, slices_of, joint_of, fits};
+ghost use Rattle.stream_mending.specs.Portions.{Portion, put, no_segment, with_segment, units_of, slices_of, joint_of, fits};
 ghost use Rattle.stream_mending.specs.Mended.{first_place};
 ghost use Rattle.stream_mending.specs.OpenPortions.{IsFirstOf, IsOpen};
 
@@ -41,7 +41,7 @@ pub(crate) struct OpenPortion {
 impl OpenPortion {
     /// Before the first NAL unit.
     pub(crate) fn new(alloc: Global) -> OpenPortion
-        ensures { IsOpen no_stretch result }
+        ensures { IsOpen no_segment result }
     {
         OpenPortion {
             text: Vec::new(alloc),
@@ -57,7 +57,7 @@ impl OpenPortion {
     /// Begins anew, with a delimiter or without.
     pub(crate) fn begin(&mut self, is_delimited: bool) -> Result<(), AllocError>
         ensures { OnOk result
-            (IsOpen (record { is_delimited = is_delimited; stretches = [] }) self.new) }
+            (IsOpen (record { is_delimited = is_delimited; segments = [] }) self.new) }
     {
         self.text.clear();
         self.zeros = 0;
@@ -82,9 +82,9 @@ impl OpenPortion {
 
     /// Adds the zeros after a NAL unit that is left out.
     pub(crate) fn leave_out(&mut self, zeros: usize) -> Result<(), AllocError>
-        ensures { (portion : Portion) (stretch : Stretch) → is_sound stretch.unit ≡ false
-            → stretch.zeros ≡ zeros → IsOpen portion self.old
-            → OnOk result (IsOpen (with_stretch portion stretch) self.new) }
+        ensures { (portion : Portion) (segment : Segment) → is_sound segment.unit ≡ false
+            → segment.zeros ≡ zeros → IsOpen portion self.old
+            → OnOk result (IsOpen (with_segment portion segment) self.new) }
     {
         self.add_zeros(zeros)?;
         Ok(())
@@ -94,7 +94,7 @@ impl OpenPortion {
     pub(crate) fn add(&mut self, place: usize, unit: &[u8], zeros: usize) -> Result<(), AllocError>
         requires { is_sound unit.now ≡ true }
         ensures { (portion : Portion) → IsOpen portion self.old
-            → OnOk result (IsOpen (with_stretch portion
+            → OnOk result (IsOpen (with_segment portion
             (record { place = place; unit = unit.now; zeros = zeros })) self.new) }
     {
         let bytes = sum(self.bytes, START_CODE.len() + unit.len())?;
@@ -109,9 +109,9 @@ impl OpenPortion {
 
     /// Where the first NAL unit stands with one more, which stands at this place.
     fn place_with(&self, place: usize) -> usize
-        ensures { (portion : Portion) (stretch : Stretch) → IsOpen portion self.now
-            → is_sound stretch.unit ≡ true → stretch.place ≡ place
-            → result ≡ first_place (portion.stretches ++ stretch ∷ []) }
+        ensures { (portion : Portion) (segment : Segment) → IsOpen portion self.now
+            → is_sound segment.unit ≡ true → segment.place ≡ place
+            → result ≡ first_place (portion.segments ++ segment ∷ []) }
     {
         if self.bytes == 0 {
             return place;

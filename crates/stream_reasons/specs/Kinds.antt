@@ -4,7 +4,7 @@ use Rattle.annexb.specs.Faults.{is_nothing}
 use Rattle.stream_reasons.specs.declared.file_kinds.kind.FileKind.{FileKind}
 use Rattle.stream_reasons.specs.declared.file_kinds.kind.FileKind.TheVariants.{LengthPrefixedH264, Empty}
 use Rattle.stream_reasons.specs.declared.file_kinds.detection.TheConstants.{FIRST_BYTES}
-use Rattle.stream_reasons.specs.Marks.{container_kind}
+use Rattle.stream_reasons.specs.Signatures.{container_kind}
 use Rattle.stream_reasons.specs.Headers.{header_kind}
 use Rattle.stream_reasons.specs.Lengths.{is_length_prefixed}
 use Rattle.stream_reasons.specs.Plain.{plain_kind}

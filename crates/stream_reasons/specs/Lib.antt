@@ -1,7 +1,7 @@
 pub mod Reasons
 pub mod Sentences
 pub mod Tables
-pub mod Marks
+pub mod Signatures
 pub mod Headers
 pub mod Lengths
 pub mod Plain

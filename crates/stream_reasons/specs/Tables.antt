@@ -11,47 +11,47 @@ pub record PlacedBytes : Type 0 where
 -- a kind, and the marks that all stand in a file of it
 pub record KindRow : Type 0 where
   pub kind : FileKind
-  pub marks : List PlacedBytes
+  pub signatures : List PlacedBytes
 
 -- one mark
-abbrev pub mark : ℕ → List ℕ → PlacedBytes
-mark at bytes = record { at = at; bytes = bytes }
+abbrev pub signature : ℕ → List ℕ → PlacedBytes
+signature at bytes = record { at = at; bytes = bytes }
 
 -- a row
 abbrev pub row : FileKind → List PlacedBytes → KindRow
-row kind marks = record { kind = kind; marks = marks }
+row kind signatures = record { kind = kind; signatures = signatures }
 
 -- the containers, the first that fits being meant
 unfoldable pub containers : List KindRow
 containers =
     -- the file type box (ISO/IEC 14496-12, 4.3) and the segment type box (8.16.2)
-    row Mp4 (mark 4 (codes "ftyp") ∷ [])
-    ∷ row Mp4 (mark 4 (codes "styp") ∷ [])
+    row Mp4 (signature 4 (codes "ftyp") ∷ [])
+    ∷ row Mp4 (signature 4 (codes "styp") ∷ [])
     -- files from before ftyp (Apple, QuickTime File Format Specification, "Movie Atoms", "Movie Data Atoms", "The Wide Atom")
-    ∷ row Mp4 (mark 0 (0 ∷ []) ∷ mark 4 (codes "moov") ∷ [])
-    ∷ row Mp4 (mark 4 (codes "mdat") ∷ [])
-    ∷ row Mp4 (mark 0 (0 ∷ 0 ∷ 0 ∷ 8 ∷ codes "wide") ∷ [])
+    ∷ row Mp4 (signature 0 (0 ∷ []) ∷ signature 4 (codes "moov") ∷ [])
+    ∷ row Mp4 (signature 4 (codes "mdat") ∷ [])
+    ∷ row Mp4 (signature 0 (0 ∷ 0 ∷ 0 ∷ 8 ∷ codes "wide") ∷ [])
     -- free space of less than 65,536 bytes (ISO/IEC 14496-12, 8.1.2)
-    ∷ row Mp4 (mark 0 (0 ∷ 0 ∷ []) ∷ mark 4 (codes "free") ∷ [])
-    ∷ row Mp4 (mark 0 (0 ∷ 0 ∷ []) ∷ mark 4 (codes "skip") ∷ [])
+    ∷ row Mp4 (signature 0 (0 ∷ 0 ∷ []) ∷ signature 4 (codes "free") ∷ [])
+    ∷ row Mp4 (signature 0 (0 ∷ 0 ∷ []) ∷ signature 4 (codes "skip") ∷ [])
     -- the id of the EBML element (IETF RFC 8794, 11.2.1), with which Matroska begins (RFC 9559, 4)
-    ∷ row Matroska (mark 0 (26 ∷ 69 ∷ 223 ∷ 163 ∷ []) ∷ [])
+    ∷ row Matroska (signature 0 (26 ∷ 69 ∷ 223 ∷ 163 ∷ []) ∷ [])
     -- Microsoft, "AVI RIFF File Reference"
-    ∷ row Avi (mark 0 (codes "RIFF") ∷ mark 8 (codes "AVI ") ∷ [])
+    ∷ row Avi (signature 0 (codes "RIFF") ∷ signature 8 (codes "AVI ") ∷ [])
     -- the signature and version 1 (Adobe Flash Video File Format Specification 10.1, E.2)
-    ∷ row Flv (mark 0 (70 ∷ 76 ∷ 86 ∷ 1 ∷ []) ∷ [])
+    ∷ row Flv (signature 0 (70 ∷ 76 ∷ 86 ∷ 1 ∷ []) ∷ [])
     -- the signature of the header of an IVF file (WebM project, libvpx, ivfenc.c)
-    ∷ row Ivf (mark 0 (codes "DKIF") ∷ [])
+    ∷ row Ivf (signature 0 (codes "DKIF") ∷ [])
     -- the word of a stream's header (MJPEG tools, yuv4mpeg(5))
-    ∷ row Y4m (mark 0 (codes "YUV4MPEG2") ∷ [])
+    ∷ row Y4m (signature 0 (codes "YUV4MPEG2") ∷ [])
     -- the capture pattern of a page (IETF RFC 3533, 6)
-    ∷ row Ogg (mark 0 (codes "OggS") ∷ [])
+    ∷ row Ogg (signature 0 (codes "OggS") ∷ [])
     -- pack_start_code (ITU-T H.222.0, 2.5.3.4)
-    ∷ row MpegProgramStream (mark 0 (0 ∷ 0 ∷ 1 ∷ 186 ∷ []) ∷ [])
+    ∷ row MpegProgramStream (signature 0 (0 ∷ 0 ∷ 1 ∷ 186 ∷ []) ∷ [])
     -- sync_byte in each packet of 188 bytes (ITU-T H.222.0, 2.4.3.2): three of them
-    ∷ row MpegTransportStream (mark 0 (71 ∷ []) ∷ mark 188 (71 ∷ []) ∷ mark 376 (71 ∷ []) ∷ [])
+    ∷ row MpegTransportStream (signature 0 (71 ∷ []) ∷ signature 188 (71 ∷ []) ∷ signature 376 (71 ∷ []) ∷ [])
     -- the same with four bytes before each packet (Blu-ray Disc Association, white paper 2.B)
-    ∷ row MpegTransportStream (mark 4 (71 ∷ []) ∷ mark 196 (71 ∷ []) ∷ mark 388 (71 ∷ []) ∷ [])
+    ∷ row MpegTransportStream (signature 4 (71 ∷ []) ∷ signature 196 (71 ∷ []) ∷ signature 388 (71 ∷ []) ∷ [])
     ∷ []
 
 -- what stands after a start code, and whose byte stream it tells

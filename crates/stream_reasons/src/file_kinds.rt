@@ -9,9 +9,8 @@ mod detection;
 mod headers;
 mod kind;
 mod lengths;
-mod marks;
-mod plain;
 mod rows;
+mod signatures;
 
 pub use detection::{FIRST_BYTES, kind_of};
 pub use kind::FileKind;

@@ -14,7 +14,7 @@ use Rattle.stream_edits.proofs.GivenIds.{AreDifferent-ids, HasIds-made}
 use Rattle.stream_edits.proofs.Grouped.{HasIds-all, accepted-all, length-all}
 use Rattle.stream_edits.specs.Snapshots.{IsAnyOf}
 use Rattle.stream_edits.proofs.SnapshotsAccepted.{accepted-snapshot}
-use Rattle.stream_session.specs.Kept.{CanStand, History, IsKept}
+use Rattle.stream_session.specs.Stored.{CanStand, History, IsSound}
 use Rattle.stream_session.specs.Moves.{ComeTo}
 
 -- edits leave each id to one unit
@@ -27,7 +27,7 @@ pub HasIds-reached : (origin : Register) (edits : List Edit) (register : Registe
     → HasIds register
 HasIds-reached origin edits register based replays = HasIds-replays origin edits register based.1.differ replays
 
-module _ {P : Type 0} (history : History) (register : Register) (store : StoreValue P) (kept : IsKept history register store) where
+module _ {P : Type 0} (history : History) (register : Register) (store : StoreValue P) (kept : IsSound history register store) where
   -- ids of a session
   pub HasIds-kept : HasIds register
   HasIds-kept = HasIds-reached history.origin (edits_of history.entries) register kept.based kept.replayed

@@ -14,7 +14,7 @@ use Rattle.picture_store.proofs.Marked.{stands_listed}
 use Rattle.stream_edits.specs.Edits.{Register}
 use Rattle.stream_edits.specs.Streams.{ids_of, place_of}
 use Rattle.stream_session.specs.Altered.{IsAltered, NoneAltered, keys_in_use, with_mark}
-use Rattle.stream_session.specs.Kept.{History, machine_of}
+use Rattle.stream_session.specs.Stored.{History, machine_of}
 use Rattle.stream_session.specs.Machines.{Machine}
 use Rattle.stream_session.specs.Showing.{keys_in, HasKey}
 use Rattle.stream_session.proofs.Pictured.{IsStoreOf, UnitsStay, same_units}

@@ -14,7 +14,7 @@ use Rattle.stream_edits.specs.Streams.{Stream, ids_of}
 use Rattle.stream_edits.proofs.GivenIds.{AreDifferent-ids}
 use Rattle.stream_edits.specs.Snapshots.{IsAnyOf}
 use Rattle.stream_edits.proofs.SnapshotsAccepted.{accepted-snapshot}
-use Rattle.stream_session.specs.Kept.{CanStand, History, IsKept, machine_of}
+use Rattle.stream_session.specs.Stored.{CanStand, History, IsSound, machine_of}
 use Rattle.stream_session.specs.Machines.{IsBegun, RefitsTo, empty, store_of}
 use Rattle.stream_session.specs.Moves.{MovesPictures}
 use Rattle.stream_session.proofs.Pictured.{IsStoreOf, RefitsTo-stored}
@@ -40,18 +40,18 @@ pub all_brought : (change : Change) (stream : Stream) → at_of change ≡ 0 →
     → stream_after change [] ≡ stream
 all_brought change stream at rest units = rw (at, rest, units) (append-nil stream)
 
-module _ {P : Type 0} (room : ℕ) (origin : Register) (change : Change) (steps lost : ℕ) (changed : Changed) (store : StoreValue P)
+module _ {P : Type 0} (capacity : ℕ) (origin : Register) (change : Change) (steps lost : ℕ) (changed : Changed) (store : StoreValue P)
     (is : IsAnyOf origin) (brings : stream_after change [] ≡ origin.stream)
-    (moves : MovesPictures (stores.empty room) [] change steps lost changed store) where
+    (moves : MovesPictures (stores.empty capacity) [] change steps lost changed store) where
   history : History
   history = record { origin = origin; entries = [] }
 
-  refits : RefitsTo (stores.empty room) origin.stream store
-  refits = subst (λ (stream : Stream). RefitsTo (stores.empty room) stream store) brings moves.refits
+  refits : RefitsTo (stores.empty capacity) origin.stream store
+  refits = subst (λ (stream : Stream). RefitsTo (stores.empty capacity) stream store) brings moves.refits
 
   -- may be stored
-  pub IsKept-begun : IsKept (record { origin = origin; entries = [] }) origin store
-  IsKept-begun = record {
+  pub IsSound-begun : IsSound (record { origin = origin; entries = [] }) origin store
+  IsSound-begun = record {
     identified = refits.ids_are;
     folded = refits.outcomes_are;
     bounded = is.1.bounded;
@@ -60,13 +60,13 @@ module _ {P : Type 0} (room : ℕ) (origin : Register) (change : Change) (steps 
   }
 
   -- and begins from the snapshot
-  pub IsBegun-begun : IsBegun room origin (machine_of (record { origin = origin; entries = [] }) origin store)
+  pub IsBegun-begun : IsBegun capacity origin (machine_of (record { origin = origin; entries = [] }) origin store)
   IsBegun-begun = record {
     origin_is = refl;
     register_is = refl;
     journal_is = refl;
     refits =
-        (RefitsTo-stored (record { origin = no_units; entries = [] }) no_units (stores.empty room) (record { origin = origin; entries = [] }) origin
+        (RefitsTo-stored (record { origin = no_units; entries = [] }) no_units (stores.empty capacity) (record { origin = origin; entries = [] }) origin
         (ids_of origin.stream) (outcomes_of origin.stream) store refits.lost (record { identified = refl; folded = refl }) refl refl
         (refits, refl)).0;
   }

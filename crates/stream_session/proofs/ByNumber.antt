@@ -13,7 +13,7 @@ use Rattle.picture_store.proofs.ByNumber.{none_passes, position_map}
 use Rattle.stream_edits.specs.declared.edits.Edit.{Edit}
 use Rattle.stream_edits.specs.Edits.{Register}
 use Rattle.stream_session.specs.Jobs.{KeepsStream}
-use Rattle.stream_session.specs.Kept.{machine_of}
+use Rattle.stream_session.specs.Stored.{machine_of}
 use Rattle.stream_session.specs.Machines.{Machine, store_of}
 use Rattle.stream_session.specs.Taken.{as_taken, input_among}
 

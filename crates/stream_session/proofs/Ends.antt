@@ -3,7 +3,7 @@ use Rattle.std.proofs.Common.{◌≡◌, ◌∙◌, ℕ, ◌+◌, ◌-◌, ◌<�
 use Rattle.std.specs.Prelude.{slice_get}
 use Rattle.std.proofs.lemmas.List.{length-map}
 use Rattle.std.proofs.lemmas.Option.{slice_get-map, slice_get-get_or, slice_get_within}
-use Rattle.stream_edits.specs.declared.edits.Place.TheVariants.{First, After}
+use Rattle.stream_edits.specs.declared.edits.InsertionPoint.TheVariants.{First, After}
 use Rattle.stream_edits.specs.declared.receipts.Last.{Last}
 use Rattle.stream_edits.specs.Edits.{Register}
 use Rattle.stream_edits.specs.Ids.{HasIds}

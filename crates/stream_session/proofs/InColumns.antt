@@ -13,7 +13,7 @@ use Rattle.picture_store.specs.Stores.{StoreValue}
 use Rattle.stream_edits.specs.Edits.{Register}
 use Rattle.stream_edits.specs.Streams.{Stream, ids_of}
 use Rattle.stream_session.specs.Doubting.{references_of, seen_in, seen_with}
-use Rattle.stream_session.specs.Kept.{History, IsKept}
+use Rattle.stream_session.specs.Stored.{History, IsSound}
 use Rattle.stream_session.proofs.Looked.{place_kept}
 
 -- there are as many of each column
@@ -49,7 +49,7 @@ id_at (i ∷ ids) (r ∷ references) (o ∷ outcomes) (suc at) id is = id_at ids
 
 module _ {P : Type 0} where
   -- no two units of a session's stream have one id
-  pub ids_differ : (history : History) (register : Register) (store : StoreValue P) → IsKept history register store
+  pub ids_differ : (history : History) (register : Register) (store : StoreValue P) → IsSound history register store
       → IdsDiffer (seen_in register.stream)
   ids_differ history register store kept at other id is also =
       let stands = id_at (ids_of register.stream) (references_of register.stream) (outcomes_of register.stream) in

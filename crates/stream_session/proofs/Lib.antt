@@ -2,7 +2,7 @@ pub mod Placed
 pub mod Ends
 pub mod Looked
 pub mod InColumns
-pub mod Stretched
+pub mod Ranged
 pub mod Accepted
 pub mod Pictured
 pub mod Changed

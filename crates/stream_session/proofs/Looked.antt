@@ -13,7 +13,7 @@ use Rattle.stream_edits.specs.Streams.{Stream, ids_of, place_of}
 use Rattle.stream_edits.proofs.GivenIds.{AreDifferent-ids}
 use Rattle.stream_session.proofs.Accepted.{HasIds-kept}
 use Rattle.stream_session.proofs.Placed.{placed}
-use Rattle.stream_session.specs.Kept.{History, IsKept}
+use Rattle.stream_session.specs.Stored.{History, IsSound}
 use Rattle.stream_session.specs.Streams.{outcome_in, position_in}
 use Rattle.stream_fold.proofs.Folds.{length-outcomes_from}
 
@@ -38,13 +38,13 @@ position_found stream id place position stands at =
 
 module _ {P : Type 0} where
   -- the ids that are stored differ
-  pub ids_apart : (history : History) (register : Register) (store : StoreValue P) → IsKept history register store
+  pub ids_apart : (history : History) (register : Register) (store : StoreValue P) → IsSound history register store
       → AreDifferent store.ids
   ids_apart history register store kept =
       subst AreDifferent (sym kept.identified) (AreDifferent-ids register (HasIds-kept history register store kept))
 
   -- a unit is found where it stands
-  pub place_kept : (history : History) (register : Register) (store : StoreValue P) → IsKept history register store
+  pub place_kept : (history : History) (register : Register) (store : StoreValue P) → IsSound history register store
       → (id at : ℕ) → slice_get (ids_of register.stream) at ≡ Some id → place_of register.stream id ≡ Some at
   place_kept history register store kept id at stands =
       sym (placed (ids_of register.stream) id at (AreDifferent-ids register (HasIds-kept history register store kept)) stands)

@@ -1,8 +1,8 @@
 -- What is made by one change is an edit, or a group of them.
 use Rattle.std.proofs.Common.{◌≡◌, ℕ, List, [], ◌∷◌, length, sym, subst, arith}
 use Rattle.picture_keys.specs.declared.changed_units.changed.Changed.{Changed}
-use Rattle.stream_edits.specs.declared.acceptance.AcceptedEdit.{AcceptedEdit}
-use Rattle.stream_edits.specs.declared.acceptance.AcceptedGroup.{AcceptedGroup}
+use Rattle.stream_edits.specs.declared.accepting.AcceptedEdit.{AcceptedEdit}
+use Rattle.stream_edits.specs.declared.accepting.AcceptedGroup.{AcceptedGroup}
 use Rattle.stream_edits.specs.declared.edits.Edit.{Edit}
 use Rattle.stream_edits.specs.declared.receipts.GroupReceipt.{GroupReceipt}
 use Rattle.stream_edits.specs.Changes.{IsFor, after}

@@ -5,8 +5,8 @@ use Rattle.std.specs.Prelude.{slice_get, Err}
 use Rattle.std.proofs.lemmas.Option.{same_Some}
 use Rattle.unit_outcomes.specs.declared.outcome.Outcome.TheVariants.{Plan as Planned}
 use Rattle.decode_jobs.specs.Jobs.{JobValue}
-use Rattle.picture_store.specs.declared.refusals.TakeRefused.{TakeRefused}
-use Rattle.picture_store.specs.declared.refusals.TakeRefused.TheVariants.{JobsSpent, Memory}
+use Rattle.picture_store.specs.declared.answers.TakeRefused.{TakeRefused}
+use Rattle.picture_store.specs.declared.answers.TakeRefused.TheVariants.{JobsSpent, Memory}
 use Rattle.picture_store.specs.Jobs.{Gives}
 use Rattle.picture_store.specs.Pending.{IsPending, IsAnyDueBy, IsAnyOutBy}
 use Rattle.picture_store.specs.Released as released
@@ -14,9 +14,9 @@ use Rattle.picture_store.specs.Stores.{StoreValue}
 use Rattle.picture_store.specs.TakingFor as pictures
 use Rattle.stream_edits.specs.Edits.{Register}
 use Rattle.stream_edits.specs.Streams.{Stream, ids_of, place_of}
-use Rattle.stream_session.specs.Kept.{History, machine_of}
+use Rattle.stream_session.specs.Stored.{History, machine_of}
 use Rattle.stream_session.specs.Machines.{store_of}
-use Rattle.stream_session.specs.Needing.{AnswersReleased, AnswersUncache, IsPendingIn, IsAnyDueFor, IsAnyOutFor, TakesFor, TellsTakeFor}
+use Rattle.stream_session.specs.Needing.{AnswersReleased, AnswersUncache, IsPendingIn, IsAnyDueFor, IsAnyOutFor, TakesFor, AnswersTakeWithUnitFor}
 use Rattle.stream_session.proofs.Pictured.{IsStoreOf, IsStoreOf-stays, UnitsStay, both_seen, one_seen, same_units, store_is}
 use Rattle.stream_session.proofs.Told.{within_ids}
 
@@ -85,8 +85,8 @@ module _ {P : Type 0} where
 
       -- why no job is given
       pub refused_seen : (Of : Key → P → Type 0) (refused : TakeRefused) (new : StoreValue P)
-          → pictures.TellsTakeFor Of store target (Err refused) new
-          → TellsTakeFor Of (machine_of history register store) id (Err refused) (machine_of history register new)
+          → pictures.AnswersTakeWithUnitFor Of store target (Err refused) new
+          → AnswersTakeWithUnitFor Of (machine_of history register store) id (Err refused) (machine_of history register new)
       refused_seen Of JobsSpent new told =
           (due_seen told.0, told.1, ap (λ (s : StoreValue P). machine_of history register s) told.2)
       refused_seen Of Memory new told = ap (λ (s : StoreValue P). machine_of history register s) told

@@ -10,8 +10,8 @@ use Rattle.decode_jobs.specs.Inputs.{InputValue}
 use Rattle.decode_jobs.specs.Jobs.{JobValue}
 use Rattle.decode_jobs.specs.Keys.{Key}
 use Rattle.picture_keys.specs.Known.{Known, key_of_outcome, known_with, keys_after}
-use Rattle.picture_store.specs.declared.refusals.TakeRefused.{TakeRefused}
-use Rattle.picture_store.specs.declared.refusals.TakeRefused.TheVariants.{JobsSpent, Memory}
+use Rattle.picture_store.specs.declared.answers.TakeRefused.{TakeRefused}
+use Rattle.picture_store.specs.declared.answers.TakeRefused.TheVariants.{JobsSpent, Memory}
 use Rattle.picture_store.specs.declared.answers.Landing.{Landing}
 use Rattle.picture_store.specs.declared.answers.Landing.TheVariants as landings
 use Rattle.picture_store.specs.declared.answers.Returning.{Returning}
@@ -22,7 +22,7 @@ use Rattle.picture_store.specs.Jobs as pictures
 use Rattle.stream_edits.specs.Streams.{Stream, ids_of}
 use Rattle.stream_edits.specs.Edits.{Register}
 use Rattle.stream_session.specs.Machines.{store_of, RefitsTo}
-use Rattle.stream_session.specs.Kept.{History, IsKept, machine_of}
+use Rattle.stream_session.specs.Stored.{History, IsSound, machine_of}
 use Rattle.stream_session.specs.Jobs.{AnswersTake, AnswersLand, AnswersLandOf, AnswersGiveBack, AnswersGiveBackOf}
 
 module _ {P : Type 0} where
@@ -33,7 +33,7 @@ module _ {P : Type 0} where
 
   -- what is kept is of the stream
   pub IsStoreOf-kept : (history : History) (register : Register) (store : StoreValue P)
-      → IsKept history register store → IsStoreOf register.stream store
+      → IsSound history register store → IsStoreOf register.stream store
   IsStoreOf-kept history register store kept = record { identified = kept.identified; folded = kept.folded }
 
   -- what contracts see of the pictures is what is stored
@@ -157,9 +157,9 @@ module _ {P : Type 0} where
     )
 
   -- and is kept
-  pub IsKept-stays : (history : History) (register : Register) (old new : StoreValue P)
-      → IsKept history register old → UnitsStay old new → IsKept history register new
-  IsKept-stays history register old new kept stay = record {
+  pub IsSound-stays : (history : History) (register : Register) (old new : StoreValue P)
+      → IsSound history register old → UnitsStay old new → IsSound history register new
+  IsSound-stays history register old new kept stay = record {
     identified = stay.ids_stay ∙ kept.identified;
     folded = stay.outcomes_stay ∙ kept.folded;
     bounded = kept.bounded;

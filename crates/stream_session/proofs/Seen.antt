@@ -16,7 +16,7 @@ use Rattle.stream_session.specs.declared.showing.Shown.TheVariants as shown
 use Rattle.stream_edits.specs.Streams.{Stream, place_of}
 use Rattle.stream_edits.specs.Edits.{Register}
 use Rattle.stream_session.specs.Streams.{outcome_in}
-use Rattle.stream_session.specs.Kept.{History, machine_of}
+use Rattle.stream_session.specs.Stored.{History, machine_of}
 use Rattle.stream_session.specs.Showing.{keys_in, HasKey, HasNumber, Shows}
 use Rattle.stream_session.proofs.Looked.{length-outcomes_of}
 use Rattle.stream_session.proofs.Pictured.{IsStoreOf, key_of_plan}

@@ -9,20 +9,20 @@ use Rattle.stream_edits.specs.Edits.{Register}
 use Rattle.stream_edits.specs.Changes.{after}
 use Rattle.stream_edits.specs.Streams.{ids_of}
 use Rattle.stream_edits.proofs.Grouped.{Replays-entry, length-all}
-use Rattle.stream_session.specs.Kept.{History, IsKept, machine_of, with_entry}
+use Rattle.stream_session.specs.Stored.{History, IsSound, machine_of, with_entry}
 use Rattle.stream_session.specs.Machines.{RefitsTo, store_of}
 use Rattle.stream_session.specs.Moves.{ComeTo, Moves, MovesPictures}
 use Rattle.stream_session.proofs.Pictured.{IsStoreOf-kept, RefitsTo-stored}
 
 module _ {P : Type 0} (history : History) (old : Register) (store : StoreValue P) (edits : List Edit) (change : Change) (given : ℕ)
-    (steps lost : ℕ) (changed : Changed) (refit : StoreValue P) (kept : IsKept history old store) (come : ComeTo old edits change given)
+    (steps lost : ℕ) (changed : Changed) (refit : StoreValue P) (kept : IsSound history old store) (come : ComeTo old edits change given)
     (moves : MovesPictures store old.stream change steps lost changed refit) where
   abbrev new : Register
   new = after change given old.stream
 
   -- what edits leave may be stored next
-  pub IsKept-after : IsKept (with_entry history edits) new refit
-  IsKept-after = record {
+  pub IsSound-after : IsSound (with_entry history edits) new refit
+  IsSound-after = record {
     identified = moves.refits.ids_are;
     folded = moves.refits.outcomes_are;
     bounded = length-all old edits come.0 new come.1 kept.bounded;

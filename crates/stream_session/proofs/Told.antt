@@ -13,9 +13,9 @@ use Rattle.picture_keys.specs.Known.{Known, key_of, key_of_outcome, known_with, 
 use Rattle.picture_store.specs.Stores.{OutValue, StoreValue}
 use Rattle.picture_store.specs.Jobs.{IsDue, Takes}
 use Rattle.stream_edits.specs.Streams.{Stream, ids_of}
-use Rattle.stream_session.specs.Kept.{History, machine_of}
+use Rattle.stream_session.specs.Stored.{History, machine_of}
 use Rattle.stream_session.specs.Showing.{keys_in}
-use Rattle.stream_session.specs.Jobs.{IsFirstWith, TellsTake}
+use Rattle.stream_session.specs.Jobs.{IsFirstWith, AnswersTakeWithUnit}
 use Rattle.stream_session.proofs.Pictured.{IsStoreOf, take_seen}
 
 -- a unit between those before it and those after it has the key that those before it say
@@ -102,7 +102,7 @@ module _ {P : Type 0} {IsOf : Key → P → Type 0} where
 
     -- the job goes out, and its unit is told
     pub told_seen : (history : History) (given : ℕ) (id : ℕ) → slice_get (ids_of stream) (length takes.gives.before) ≡ Some id
-        → TellsTake IsOf (machine_of history (record { ids_given = given; stream = stream }) old) (Ok (Some (id, job)))
+        → AnswersTakeWithUnit IsOf (machine_of history (record { ids_given = given; stream = stream }) old) (Ok (Some (id, job)))
         (machine_of history (record { ids_given = given; stream = stream }) new)
     told_seen history given id stands = (
       take_seen IsOf history (record { ids_given = given; stream = stream }) old new is (Ok (Some job)) takes,

@@ -10,7 +10,7 @@ use Rattle.stream_edits.specs.Reading.{AreHashedFor}
 use Rattle.stream_edits.specs.Streams.{Stream}
 use Rattle.stream_session.specs.Changing.{ChangesUnits}
 use Rattle.stream_session.specs.Machines.{Machine, RefitsTo, store_of}
-use Rattle.stream_fold.specs.Kept.{spacing}
+use Rattle.stream_fold.specs.StoredStates.{spacing}
 use Rattle.stream_session.specs.MeetingPoints.{IsMeetingPoint}
 
 -- the steps are few: whatever front and rest the streams before and after have in common, at most
@@ -20,7 +20,7 @@ abbrev pub AreFewForAll : Stream → Stream → ℕ → Type 0
 AreFewForAll old new steps =
     (front rest count : ℕ) → IsMeetingPoint old new front rest count → steps ≤ length new - (front + rest) + count + 64
 
--- the steps are those of one stretch, one for each of its units as they are after: fewer than the
+-- the steps are those of one range, one for each of its units as they are after: fewer than the
 -- spacing in front of the units that differ, those that stand in their place, and those past them
 -- up to where the folds agree or there are no more
 pub record AreCounted (old new : Stream) (steps : ℕ) : Type 0 where

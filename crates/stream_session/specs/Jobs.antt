@@ -2,7 +2,7 @@
 use Rattle.std.specs.Prelude.{◌≡◌, ℕ, take, slice_get, All, Contains, Option, None, Some, Result, Ok, Err}
 use Rattle.decode_jobs.specs.Inputs.{InputValue}
 use Rattle.decode_jobs.specs.Jobs.{JobValue}
-use Rattle.picture_store.specs.declared.refusals.TakeRefused.{TakeRefused}
+use Rattle.picture_store.specs.declared.answers.TakeRefused.{TakeRefused}
 use Rattle.picture_store.specs.declared.answers.Landing.{Landing}
 use Rattle.picture_store.specs.declared.answers.Returning.{Returning}
 use Rattle.decode_jobs.specs.Keys.{Key}
@@ -51,10 +51,10 @@ module _ {P : Type 0} (IsOf : Key → P → Type 0) where
   AnswersTake old answer new = pictures.AnswersTake IsOf (store_of old) answer (store_of new) × KeepsStream old new
 
   -- an answer to one who asks for a job and its unit
-  abbrev pub TellsTake : Machine P → Result (Option (ℕ × JobValue P)) TakeRefused → Machine P → Type 0
-  TellsTake old (Ok (Some told)) new = AnswersTake old (Ok (Some told.1)) new × IsUnitOf new told.1.number told.0
-  TellsTake old (Ok None) new = AnswersTake old (Ok None) new
-  TellsTake old (Err refused) new = AnswersTake old (Err refused) new
+  abbrev pub AnswersTakeWithUnit : Machine P → Result (Option (ℕ × JobValue P)) TakeRefused → Machine P → Type 0
+  AnswersTakeWithUnit old (Ok (Some told)) new = AnswersTake old (Ok (Some told.1)) new × IsUnitOf new told.1.number told.0
+  AnswersTakeWithUnit old (Ok None) new = AnswersTake old (Ok None) new
+  AnswersTakeWithUnit old (Err refused) new = AnswersTake old (Err refused) new
 
 module _ {P : Type 0} (IsDecoded : InputValue P → P → Type 0) where
   -- an answer to a job's result

@@ -4,12 +4,12 @@ pub mod Machines
 pub mod MeetingPoints
 pub mod Grouping
 pub mod Moves
-pub mod Stretches
+pub mod Splices
 pub mod Showing
 pub mod Altered
 pub mod Jobs
 pub mod Needing
 pub mod Taken
 pub mod Numbers
-pub mod Kept
+pub mod Stored
 pub mod Doubting

@@ -5,7 +5,7 @@ use Rattle.decode_jobs.specs.Keys.{Key}
 use Rattle.picture_store.specs.Pictures.{Pictures, all_of, no_pictures}
 use Rattle.picture_store.specs.Stores.{OutValue, StoreValue}
 use Rattle.picture_store.specs.Changes.{Refits}
-use Rattle.stream_edits.specs.declared.acceptance.AcceptedEdit.{AcceptedEdit}
+use Rattle.stream_edits.specs.declared.accepting.AcceptedEdit.{AcceptedEdit}
 use Rattle.stream_edits.specs.declared.edits.Edit.{Edit}
 use Rattle.stream_edits.specs.declared.receipts.Receipt.{Receipt}
 use Rattle.stream_edits.specs.declared.refusals.EditRefused.{EditRefused}
@@ -24,7 +24,7 @@ use Rattle.stream_session.specs.Changing.{ChangesUnits}
 -- themselves; the jobs that are out; how many numbers of jobs were given; and the keys that the last
 -- mark remembers, where one was made
 pub record Machine (P : Type 0) : Type 0 where
-  pub room : ℕ
+  pub capacity : ℕ
   pub origin : Register
   pub journal : List (List Edit)
   pub register : Register
@@ -53,8 +53,8 @@ pub record Refolds (old : Register) (edit : Edit) (steps : ℕ) (new : Register)
 module _ {P : Type 0} where
   -- before the first edit
   abbrev pub empty : ℕ → Machine P
-  empty room = record {
-    room = room;
+  empty capacity = record {
+    capacity = capacity;
     origin = no_units;
     journal = [];
     register = no_units;
@@ -69,7 +69,7 @@ module _ {P : Type 0} where
 
   -- the session is one before the first edit, of an empty stream
   abbrev pub IsEmpty : Machine P → Type 0
-  IsEmpty machine = (room : ℕ) × (machine ≡ empty room)
+  IsEmpty machine = (capacity : ℕ) × (machine ≡ empty capacity)
 
   -- the pictures of the units, as they are stored: those of the stream's ids and of each unit's
   -- outcome
@@ -78,7 +78,7 @@ module _ {P : Type 0} where
     ids = ids_of machine.register.stream;
     outcomes = outcomes_of machine.register.stream;
     numbers = machine.numbers;
-    room = machine.room;
+    capacity = machine.capacity;
     held = machine.held;
     cached = machine.cached;
     pictures = machine.pictures;
@@ -101,11 +101,11 @@ module _ {P : Type 0} where
 
   -- the session begins with this stream, before the first edit; its pictures are those after the
   -- stream has changed from no units to this one
-  pub record IsBegun (room : ℕ) (origin : Register) (machine : Machine P) : Type 0 where
+  pub record IsBegun (capacity : ℕ) (origin : Register) (machine : Machine P) : Type 0 where
     pub origin_is : machine.origin ≡ origin
     pub register_is : machine.register ≡ origin
     pub journal_is : machine.journal ≡ []
-    pub refits : RefitsTo (store_of (empty room)) origin.stream (store_of machine)
+    pub refits : RefitsTo (store_of (empty capacity)) origin.stream (store_of machine)
 
   -- the edit is accepted with the receipt
   pub record Edits (old : Machine P) (edit : Edit) (receipt : Receipt) (new : Machine P) : Type 0 where

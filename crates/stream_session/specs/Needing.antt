@@ -3,8 +3,8 @@
 use Rattle.std.specs.Prelude.{◌≡◌, ℕ, slice_get, Option, None, Some, Result, Ok, Err}
 use Rattle.decode_jobs.specs.Jobs.{JobValue}
 use Rattle.decode_jobs.specs.Keys.{Key}
-use Rattle.picture_store.specs.declared.refusals.TakeRefused.{TakeRefused}
-use Rattle.picture_store.specs.declared.refusals.TakeRefused.TheVariants.{JobsSpent, Memory}
+use Rattle.picture_store.specs.declared.answers.TakeRefused.{TakeRefused}
+use Rattle.picture_store.specs.declared.answers.TakeRefused.TheVariants.{JobsSpent, Memory}
 use Rattle.picture_store.specs.Jobs.{most_jobs}
 use Rattle.picture_store.specs.Pending.{IsPending, IsAnyDueBy, IsAnyOutBy}
 use Rattle.picture_store.specs.TakingFor as pictures
@@ -44,17 +44,17 @@ module _ {P : Type 0} (IsOf : Key → P → Type 0) where
 
   -- an answer to one who asks for a job for a unit, and which unit it is of; what is needed is
   -- gathered in memory first
-  abbrev pub TellsTakeFor : Machine P → ℕ → Result (Option (ℕ × JobValue P)) TakeRefused → Machine P → Type 0
-  TellsTakeFor old id (Ok (Some told)) new = TakesFor old id told.0 told.1 new
-  TellsTakeFor old id (Ok None) new = (IsAnyDueFor old id → ⊥) × (new ≡ old)
-  TellsTakeFor old id (Err JobsSpent) new = IsAnyDueFor old id × (old.jobs ≡ most_jobs) × (new ≡ old)
-  TellsTakeFor old id (Err Memory) new = new ≡ old
+  abbrev pub AnswersTakeWithUnitFor : Machine P → ℕ → Result (Option (ℕ × JobValue P)) TakeRefused → Machine P → Type 0
+  AnswersTakeWithUnitFor old id (Ok (Some told)) new = TakesFor old id told.0 told.1 new
+  AnswersTakeWithUnitFor old id (Ok None) new = (IsAnyDueFor old id → ⊥) × (new ≡ old)
+  AnswersTakeWithUnitFor old id (Err JobsSpent) new = IsAnyDueFor old id × (old.jobs ≡ most_jobs) × (new ≡ old)
+  AnswersTakeWithUnitFor old id (Err Memory) new = new ≡ old
 
   -- an answer to one who asks for a job for a unit
   abbrev pub AnswersTakeFor : Machine P → ℕ → Result (Option (JobValue P)) TakeRefused → Machine P → Type 0
   AnswersTakeFor old id (Ok (Some job)) new = (unit : ℕ) × TakesFor old id unit job new
-  AnswersTakeFor old id (Ok None) new = TellsTakeFor old id (Ok None) new
-  AnswersTakeFor old id (Err refused) new = TellsTakeFor old id (Err refused) new
+  AnswersTakeFor old id (Ok None) new = AnswersTakeWithUnitFor old id (Ok None) new
+  AnswersTakeFor old id (Err refused) new = AnswersTakeWithUnitFor old id (Err refused) new
 
   -- the picture of the unit of the id goes back, or why it doesn't
   abbrev pub AnswersDrop : Machine P → ℕ → Dropped P → Machine P → Type 0

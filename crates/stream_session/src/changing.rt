@@ -5,16 +5,24 @@ ghost use Rattle.request_core.specs.Fold.{outcomes_of};
 ghost use Rattle.picture_store.specs.Pictures.{all_of};
 ghost use Rattle.stream_edits.specs.Changes.{IsInside, stream_after};
 ghost use Rattle.stream_edits.specs.Streams.{ids_of};
-ghost use Rattle.stream_session.specs.Kept.{CanStand};
+ghost use Rattle.stream_session.specs.Stored.{CanStand};
 ghost use Rattle.stream_session.specs.Moves.{MovesPictures};
 
-use crate::change_costs::ChangeCosts;
-use crate::stretches::stretch_of;
+use crate::splices::splice_of;
 use decode_jobs::Decoded;
 use picture_store::PictureStore;
 use std::alloc::{AllocError, Global};
-use stream_edits::Change;
+use stream_edits::{Change, Changed};
 use stream_fold::OrderedFold;
+
+/// What a change came to: how many steps of the fold it made, how many pictures are lost, as their
+/// keys went out of use and no memory was found to cache them, and which units changed.
+#[derive(Clone, Copy, Debug)]
+pub(crate) struct ChangeCosts {
+    pub(crate) steps: u64,
+    pub(crate) lost_pictures: u64,
+    pub(crate) changed: Changed,
+}
 
 /// Makes a change of the stream, and has the store take what it brings. On an error both stay.
 pub(crate) fn change_stream<P: Decoded>(
@@ -38,9 +46,9 @@ pub(crate) fn change_stream<P: Decoded>(
     ensures err { OnErr result (store.new ≡ store.old) }
 {
     let prepared = ordered.prepare(alloc, change, store.outcomes())?;
-    let stretch = stretch_of(alloc, ordered, &prepared)?;
+    let splice = splice_of(alloc, ordered, &prepared)?;
     let steps = prepared.refolded().steps();
-    let taken = store.refit(stretch, ordered.states())?;
+    let taken = store.refit(splice, ordered.states())?;
     ordered.commit(prepared);
     Ok(ChangeCosts {
         steps,

@@ -1,11 +1,11 @@
 //! What a session is made with.
 
 ghost use Rattle.std.specs.Prelude.{◌≡◌, ◌≤◌, false, true};
-ghost use Rattle.held_pictures.specs.Bounded.{most_room};
+ghost use Rattle.held_pictures.specs.Bounded.{most_capacity};
 ghost use Rattle.stream_session.specs.declared.config.ConfigFault.TheVariants.{Memory};
 ghost use Rattle.stream_session.specs.Numbers.{number_of_config};
 
-use picture_store::MOST_ROOM;
+use picture_store::MOST_CAPACITY;
 use std::alloc::AllocError;
 use thiserror::Error;
 
@@ -19,10 +19,10 @@ pub struct Config {
 impl Config {
     /// Whether the cache's room is in its range.
     pub(crate) fn is_in_range(self) -> bool
-        ensures yes { result ≡ true → (1 ≤ self.cache) × (self.cache ≤ most_room) }
-        ensures no { result ≡ false → (1 ≤ self.cache) × (self.cache ≤ most_room) → ⊥ }
+        ensures yes { result ≡ true → (1 ≤ self.cache) × (self.cache ≤ most_capacity) }
+        ensures no { result ≡ false → (1 ≤ self.cache) × (self.cache ≤ most_capacity) → ⊥ }
     {
-        self.cache > 0 && self.cache <= MOST_ROOM
+        self.cache > 0 && self.cache <= MOST_CAPACITY
     }
 }
 

@@ -13,7 +13,7 @@ use h264_types::pictures::AuId;
 use picture_keys::{HashedOutcome, HashedUnit};
 use std::alloc::{AllocError, Global};
 use unit_outcomes::Outcome;
-use unit_outcomes::doubts::{Doubt, Walk, is_break, is_idr_picture};
+use unit_outcomes::doubts::{Doubt, DoubtWalk, is_break, is_idr_picture};
 
 /// What is told of so many units from a place on.
 pub(crate) fn doubts_of(
@@ -24,7 +24,7 @@ pub(crate) fn doubts_of(
     count: usize,
 ) -> Result<Vec<Doubt>, AllocError>
     requires same { length outcomes.now ≡ length units.now }
-    requires stretch { from + count ≤ length units.now }
+    requires splice { from + count ≤ length units.now }
     requires differ { IdsDiffer (seen_with units.now outcomes.now) }
     ensures { IfOk result (λ doubts.
         AreDoubts (seen_with units.now outcomes.now) from count doubts.items) }
@@ -45,13 +45,13 @@ fn walk_up(
     units: &[(AuId, Shared<HashedUnit>)],
     outcomes: &[Shared<HashedOutcome>],
     from: usize,
-) -> Result<Walk, AllocError>
+) -> Result<DoubtWalk, AllocError>
     requires same { length outcomes.now ≡ length units.now }
     requires place { from ≤ length units.now }
     requires differ { IdsDiffer (seen_with units.now outcomes.now) }
     ensures { IfOk result (IsBefore (seen_with units.now outcomes.now) from) }
 {
-    let mut walk = Walk::new(alloc);
+    let mut walk = DoubtWalk::new(alloc);
     for at in walk_start(outcomes, from)..from {
         let (next, _) = pass(alloc, walk, units, outcomes, at)?;
         walk = next;
@@ -84,11 +84,11 @@ fn is_idr_at(outcomes: &[Shared<HashedOutcome>], at: usize) -> bool
 /// Walks over the unit at a place.
 fn pass(
     alloc: Global,
-    walk: Walk,
+    walk: DoubtWalk,
     units: &[(AuId, Shared<HashedUnit>)],
     outcomes: &[Shared<HashedOutcome>],
     at: usize,
-) -> Result<(Walk, Doubt), AllocError>
+) -> Result<(DoubtWalk, Doubt), AllocError>
     requires same { length outcomes.now ≡ length units.now }
     requires within { at < length units.now }
     requires differ { IdsDiffer (seen_with units.now outcomes.now) }

@@ -12,17 +12,14 @@
 //! pictures; above are stand_in_session, at the stand-in, and c_calls.
 #![tactic(auto)]
 
-mod change_costs;
 mod changing;
 mod config;
 mod doubting;
-mod refusals;
 mod session;
 mod showing;
-mod stretches;
+mod splices;
 
 pub use config::{Config, ConfigFault};
-pub use refusals::NoSuchUnit;
 pub use session::Session;
-pub use showing::{Dropped, Shown};
+pub use showing::{Dropped, NoSuchUnit, Shown};
 pub use unit_outcomes::doubts::Doubt;

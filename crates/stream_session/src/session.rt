@@ -1,7 +1,7 @@
 //! The session: a stream under edits, and the pictures of its units.
 
 ghost use Rattle.std.specs.Prelude.{◌≡◌, ◌<◌, ◌≤◌, ◌↔◌, ℕ, length, None, Some, true, IfOk, IfSome, IsErrOf, OnErr};
-ghost use Rattle.held_pictures.specs.Bounded.{most_room};
+ghost use Rattle.held_pictures.specs.Bounded.{most_capacity};
 ghost use Rattle.stream_edits.specs.Changes.{IsInside};
 ghost use Rattle.stream_edits.specs.Groups.{most_edits};
 ghost use Rattle.stream_edits.specs.Streams.{place_of};
@@ -9,15 +9,14 @@ ghost use Rattle.stream_session.specs.Grouping.{AnswersGroup};
 ghost use Rattle.stream_session.specs.Machines.{empty, AnswersEdit, IsBegun, KeepsPictures};
 ghost use Rattle.stream_session.specs.Taken.{input_of};
 ghost use Rattle.stream_session.specs.Moves.{ComeTo, Moves};
-ghost use Rattle.stream_session.specs.Jobs.{AnswersGiveBack, AnswersGiveBackOf, AnswersLand, AnswersLandOf, AnswersTake, TellsTake};
-ghost use Rattle.stream_session.specs.Needing.{AnswersTakeFor, IsAnyOutFor, IsPendingIn, TellsTakeFor};
+ghost use Rattle.stream_session.specs.Jobs.{AnswersGiveBack, AnswersGiveBackOf, AnswersLand, AnswersLandOf, AnswersTake, AnswersTakeWithUnit};
+ghost use Rattle.stream_session.specs.Needing.{AnswersTakeFor, IsAnyOutFor, IsPendingIn, AnswersTakeWithUnitFor};
 
 mod asking;
 mod marking;
 mod releasing;
 
-use crate::change_costs::ChangeCosts;
-use crate::changing::change_stream;
+use crate::changing::{ChangeCosts, change_stream};
 use crate::config::{Config, ConfigFault};
 use decode_jobs::{Decoded, Finished, Job};
 use h264_types::pictures::AuId;
@@ -61,19 +60,19 @@ impl<P: Decoded> Drop for Session<P> {
 impl<P: Decoded> Model for Session<P> {
     ghost use Rattle.std.specs.Coded.{codes};
     ghost use Rattle.decode_jobs.specs.Trees.{tree_code};
-    ghost use Rattle.picture_keys.specs.contracts.works.Works as works;
+    ghost use Rattle.picture_keys.specs.contracts.request_bodies.RequestBodies as bodies;
     ghost use Rattle.stream_session.specs.Machines.{Machine};
 
     ghost Value = { Machine P };
 
-    ghost coded = { Prim.hlevel (codes, tree_code works.the_row.coded, P.code) };
+    ghost coded = { Prim.hlevel (codes, tree_code bodies.the_row.coded, P.code) };
 
-    ghost use Rattle.stream_session.specs.Kept.{IsKept, machine_of};
+    ghost use Rattle.stream_session.specs.Stored.{IsSound, machine_of};
 
     ghost view = { λ s. machine_of (record { origin = s.origin; entries = s.journal.items })
         (record { ids_given = s.ids_given; stream = s.ordered.folded.stream }) s.store };
 
-    ghost invariant = { λ s. IsKept (record { origin = s.origin; entries = s.journal.items })
+    ghost invariant = { λ s. IsSound (record { origin = s.origin; entries = s.journal.items })
         (record { ids_given = s.ids_given; stream = s.ordered.folded.stream })
         s.store };
 }
@@ -83,7 +82,7 @@ impl<P: Decoded> Session<P> {
     pub fn new(alloc: Global, config: Config) -> Result<Session<P>, ConfigFault>
         ensures ok { IfOk result (λ session. session ≡ empty config.cache) }
         ensures cache { IsErrOf result ConfigFault.Cache
-            ↔ ((1 ≤ config.cache) × (config.cache ≤ most_room) → ⊥) }
+            ↔ ((1 ≤ config.cache) × (config.cache ≤ most_capacity) → ⊥) }
     {
         if !config.is_in_range() {
             return Err(ConfigFault::Cache);
@@ -108,7 +107,7 @@ impl<P: Decoded> Session<P> {
     ) -> Result<Session<P>, ConfigFault>
         ensures ok { IfOk result (IsBegun config.cache snapshot) }
         ensures cache { IsErrOf result ConfigFault.Cache
-            ↔ ((1 ≤ config.cache) × (config.cache ≤ most_room) → ⊥) }
+            ↔ ((1 ≤ config.cache) × (config.cache ≤ most_capacity) → ⊥) }
     {
         if !config.is_in_range() {
             return Err(ConfigFault::Cache);
@@ -244,7 +243,7 @@ impl<P: Decoded> Session<P> {
         ensures waits { IfOk result (λ job. job ≡ None
             → (id : ℕ) → IsPendingIn self.old id → IsAnyOutFor self.old id) }
     {
-        match self.take_told() {
+        match self.take_with_unit() {
             Ok(Some((_, job))) => Ok(Some(job)),
             Ok(None) => Ok(None),
             Err(refused) => Err(refused),
@@ -252,8 +251,8 @@ impl<P: Decoded> Session<P> {
     }
 
     /// Gives a picture to decode as `take` does, and tells the unit of the job.
-    pub fn take_told(&mut self) -> Result<Option<(AuId, Job<P>)>, TakeRefused>
-        ensures tells { TellsTake P.IsOf self.old result self.new }
+    pub fn take_with_unit(&mut self) -> Result<Option<(AuId, Job<P>)>, TakeRefused>
+        ensures tells { AnswersTakeWithUnit P.IsOf self.old result self.new }
         ensures waits { IfOk result (λ told. told ≡ None
             → (id : ℕ) → IsPendingIn self.old id → IsAnyOutFor self.old id) }
     {
@@ -273,7 +272,7 @@ impl<P: Decoded> Session<P> {
         ensures waits { IfOk result (λ job. job ≡ None
             → IsPendingIn self.old id → IsAnyOutFor self.old id) }
     {
-        match self.take_told_for(id) {
+        match self.take_with_unit_for(id) {
             Ok(Some((_, job))) => Ok(Some(job)),
             Ok(None) => Ok(None),
             Err(refused) => Err(refused),
@@ -281,8 +280,8 @@ impl<P: Decoded> Session<P> {
     }
 
     /// Gives a picture to decode as `take_for` does, and tells the unit of the job.
-    pub fn take_told_for(&mut self, id: AuId) -> Result<Option<(AuId, Job<P>)>, TakeRefused>
-        ensures tells { TellsTakeFor P.IsOf self.old id result self.new }
+    pub fn take_with_unit_for(&mut self, id: AuId) -> Result<Option<(AuId, Job<P>)>, TakeRefused>
+        ensures tells { AnswersTakeWithUnitFor P.IsOf self.old id result self.new }
         ensures waits { IfOk result (λ told. told ≡ None
             → IsPendingIn self.old id → IsAnyOutFor self.old id) }
     {

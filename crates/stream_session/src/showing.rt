@@ -1,5 +1,6 @@
 //! What is shown of a unit, and what comes of dropping its picture.
 
+use thiserror::Error;
 use unit_outcomes::ValidityFault;
 
 /// What is shown of a unit.
@@ -27,3 +28,8 @@ pub enum Dropped<P> {
     /// No unit has the id.
     NoSuchUnit,
 }
+
+/// No unit of the stream has the id.
+#[derive(Clone, Copy, Debug, PartialEq, Eq, Hash, Error)]
+#[error("no unit has the id")]
+pub struct NoSuchUnit;

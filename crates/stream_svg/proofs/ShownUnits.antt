@@ -6,20 +6,20 @@ use Rattle.std.proofs.lemmas.List.Sums.{sum_by_more}
 use Rattle.std.proofs.lemmas.Option.{slice_get_read}
 use Rattle.std.specs.List.{filter_map, cons_option, range_with_len, count_by}
 use mir.Val.{bool_byte}
-use Rattle.stream_svg.specs.declared.unit.Picture.{Picture}
-use Rattle.stream_svg.specs.declared.unit.Kind.{Kind}
-use Rattle.stream_svg.specs.declared.unit.Kind.TheVariants as kinds
+use Rattle.stream_svg.specs.declared.unit.DrawnPicture.{DrawnPicture}
+use Rattle.stream_svg.specs.declared.unit.UnitKind.{UnitKind}
+use Rattle.stream_svg.specs.declared.unit.UnitKind.TheVariants as kinds
 use Rattle.stream_svg.specs.declared.unit.DrawnUnit.{DrawnUnit}
-use Rattle.stream_svg.specs.declared.output_row.Shown.{Shown}
+use Rattle.stream_svg.specs.declared.output_row.OutputUnit.{OutputUnit}
 use Rattle.stream_svg.specs.OutputRow.{begins_period, position_of, period_at, shown_at}
 
 -- a unit that isn't valid has no position, and begins no period
-pub position-without : (kind : Kind) → ((picture : Picture) → kind ≡ kinds.Picture picture → ⊥) → position_of kind ≡ None
+pub position-without : (kind : UnitKind) → ((picture : DrawnPicture) → kind ≡ kinds.Picture picture → ⊥) → position_of kind ≡ None
 position-without (kinds.Picture picture) not = absurd (not picture refl)
 position-without (kinds.Fault fault) not = refl
 position-without kinds.Empty not = refl
 
-pub begins-without : (kind : Kind) → ((picture : Picture) → kind ≡ kinds.Picture picture → ⊥) → begins_period kind ≡ false
+pub begins-without : (kind : UnitKind) → ((picture : DrawnPicture) → kind ≡ kinds.Picture picture → ⊥) → begins_period kind ≡ false
 begins-without (kinds.Picture picture) not = absurd (not picture refl)
 begins-without (kinds.Fault fault) not = refl
 begins-without kinds.Empty not = refl
@@ -30,17 +30,17 @@ range_more first zero last is = let same : first ≡ last = omega arith in ap (�
 range_more first (suc count) last is = let longer : suc count + 1 ≡ suc (count + 1) = omega arith in rw longer (ap (λ rest. first ∷ rest) (range_more (first + 1) count last (omega arith)))
 
 -- what is shown of the units before a place, and how many of these units begin a period
-abbrev pub shown_before : List DrawnUnit → ℕ → List Shown
+abbrev pub shown_before : List DrawnUnit → ℕ → List OutputUnit
 shown_before units place = filter_map (shown_at units) (range_with_len 0 place)
 
 abbrev pub begun_before : List DrawnUnit → ℕ → ℕ
 begun_before units place = count_by (λ unit. begins_period unit.kind) (take place units)
 
-pub record AreShownBefore (units : List DrawnUnit) (place period : ℕ) (row : List Shown) : Type 0 where
+pub record AreShownBefore (units : List DrawnUnit) (place period : ℕ) (row : List OutputUnit) : Type 0 where
   pub periods : period ≡ begun_before units place
   pub row_is : row ≡ shown_before units place
 
-module _ (units : List DrawnUnit) (place period : ℕ) (row : List Shown) (before : AreShownBefore units place period row)
+module _ (units : List DrawnUnit) (place period : ℕ) (row : List OutputUnit) (before : AreShownBefore units place period row)
     (unit : DrawnUnit) (here : place < length units) (read : unit ≡ get_or units place unit) where
   begun_more : begun_before units (place + 1) ≡ period + cond (begins_period unit.kind) 1 0
   begun_more = sum_by_more (λ one. cond (begins_period one.kind) 1 0) units place unit here

@@ -7,7 +7,7 @@ use Rattle.stream_svg.specs.declared.geometry.Rect.{Rect}
 use Rattle.stream_svg.specs.declared.grid.Grid.{Grid}
 use Rattle.stream_svg.specs.declared.grid.TheConstants.{LEFT}
 use Rattle.stream_svg.specs.declared.unit.DrawnUnit.{DrawnUnit}
-use Rattle.stream_svg.specs.declared.unit.Reference.{Reference}
+use Rattle.stream_svg.specs.declared.unit.DrawnReference.{DrawnReference}
 use Rattle.stream_svg.specs.declared.unit.RefList.{RefList}
 use Rattle.stream_svg.specs.declared.unit.RefList.TheVariants as lists
 use Rattle.stream_svg.specs.Boxes.{stream_box}
@@ -61,7 +61,7 @@ end_of grid list None height = record { x = 46; y = height }
 end_of grid list (Some target) height = aim_of list (stream_box grid target)
 
 -- the arc from the unit at a place to a frame of which the place is known, if it is drawn
-abbrev pub arc_to : Grid → ℕ → Reference → Option ℕ → Arc
+abbrev pub arc_to : Grid → ℕ → DrawnReference → Option ℕ → Arc
 arc_to grid place reference target =
     let from = begin_of reference.list (stream_box grid place) in
     let depth = depth_of (span_of place target) in
@@ -74,7 +74,7 @@ arc_to grid place reference target =
     }
 
 -- the arc from the unit at a place to a frame that one of its lists names
-abbrev pub arc_of : Grid → List DrawnUnit → ℕ → Reference → Arc
+abbrev pub arc_of : Grid → List DrawnUnit → ℕ → DrawnReference → Arc
 arc_of grid units place reference = arc_to grid place reference (place_of units reference.frame)
 
 -- the number of a list
@@ -130,5 +130,5 @@ arc_text arc =
     if arc.is_whole then whole_text arc (turn_of arc.reference.list arc.from.y arc.depth) else stub_text arc
 
 -- the arcs from the unit at a place, of these references
-abbrev pub arcs_text : Grid → List DrawnUnit → ℕ → List Reference → List ℕ
+abbrev pub arcs_text : Grid → List DrawnUnit → ℕ → List DrawnReference → List ℕ
 arcs_text grid units place references = texts_of (λ at reference. arc_text (arc_of grid units place reference)) references

@@ -1,6 +1,6 @@
 -- What is said of units.
 use Rattle.std.specs.Prelude.{ℕ, List, string_bytes}
-use Rattle.stream_svg.specs.declared.caption.Caption.{Caption}
+use Rattle.stream_svg.specs.declared.writing.Caption.{Caption}
 
 -- the lines of a unit
 abbrev pub lines_of : Caption → List ℕ

@@ -1,7 +1,7 @@
 -- The letters of slice types, and what stands in their place.
 use Rattle.std.specs.Prelude.{ℕ, ◌++◌, Bool, true, false, List, [], ◌∷◌, codes}
-use Rattle.stream_svg.specs.declared.unit.Kind.{Kind}
-use Rattle.stream_svg.specs.declared.unit.Kind.TheVariants as kinds
+use Rattle.stream_svg.specs.declared.unit.UnitKind.{UnitKind}
+use Rattle.stream_svg.specs.declared.unit.UnitKind.TheVariants as kinds
 use Rattle.stream_svg.specs.declared.unit.SliceTypes.{SliceTypes}
 use Rattle.stream_svg.specs.declared.letters.Letter.{Letter}
 use Rattle.stream_svg.specs.declared.letters.Letter.TheVariants as letters
@@ -34,7 +34,7 @@ letters_by false true true = letters.P ∷ letters.B ∷ []
 letters_by true true true = letters.I ∷ letters.P ∷ letters.B ∷ []
 
 -- the letters of a unit's box
-abbrev pub letters_of : Kind → List Letter
+abbrev pub letters_of : UnitKind → List Letter
 letters_of (kinds.Picture picture) = letters_by picture.types.intra picture.types.predicted picture.types.bipredicted
 letters_of (kinds.Fault fault) = letters.Fault ∷ []
 letters_of kinds.Empty = letters.Nothing ∷ []

@@ -4,7 +4,7 @@ use Rattle.std.specs.List.{concat}
 use Rattle.stream_svg.specs.declared.geometry.Rect.{Rect}
 use Rattle.stream_svg.specs.declared.grid.Grid.{Grid}
 use Rattle.stream_svg.specs.declared.grid.TheConstants.{HEAD}
-use Rattle.stream_svg.specs.declared.output_row.Shown.{Shown}
+use Rattle.stream_svg.specs.declared.output_row.OutputUnit.{OutputUnit}
 use Rattle.stream_svg.specs.declared.unit.DrawnUnit.{DrawnUnit}
 use Rattle.stream_svg.specs.Boxes.{output_box, stream_box}
 use Rattle.stream_svg.specs.OutputRow.{begins_period}
@@ -25,16 +25,16 @@ begin_at grid place unit =
     else []
 
 -- the period of what a slot of the second row shows; 0 where it shows nothing
-abbrev pub period_of : Option Shown → ℕ
+abbrev pub period_of : Option OutputUnit → ℕ
 period_of None = 0
 period_of (Some shown) = shown.period
 
 -- the period of the picture before a slot; 0 before the first
-abbrev pub period_before : List Shown → ℕ → ℕ
+abbrev pub period_before : List OutputUnit → ℕ → ℕ
 period_before row slot = if slot == 0 then 0 else period_of (slice_get row (slot - 1))
 
 -- that one begins with a picture of the second row: its period isn't that of the picture before it
-abbrev pub output_begin_at : Grid → List Shown → ℕ → Shown → List ℕ
+abbrev pub output_begin_at : Grid → List OutputUnit → ℕ → OutputUnit → List ℕ
 output_begin_at grid row slot shown =
     if not (shown.period == period_before row slot) && nat_lt slot grid.units then
     (let box = output_box grid slot in begin_text box (box.y - 8) (box.y + box.height + 8))
@@ -47,7 +47,7 @@ way_text from to turn = concat (
     ∷ codes "V" ∷ decimal turn ∷ codes "L" ∷ decimal (middle_of to) ∷ codes " " ∷ decimal to.y ∷ codes "\"/>" ∷ [])
 
 -- the way to a picture of the second row from its unit
-abbrev pub way_at : Grid → ℕ → Shown → List ℕ
+abbrev pub way_at : Grid → ℕ → OutputUnit → List ℕ
 way_at grid slot shown =
     if nat_lt slot grid.units && nat_lt shown.place grid.units then
     (let from = stream_box grid shown.place in way_text from (output_box grid slot) (from.y + from.height + grid.below))
@@ -58,9 +58,9 @@ abbrev pub begins_text : Grid → List DrawnUnit → List ℕ
 begins_text grid units = texts_of (begin_at grid) units
 
 -- where they begin in the second row
-abbrev pub output_begins_text : Grid → List Shown → List ℕ
+abbrev pub output_begins_text : Grid → List OutputUnit → List ℕ
 output_begins_text grid row = texts_of (output_begin_at grid row) row
 
 -- the ways to all pictures of the second row
-abbrev pub ways_text : Grid → List Shown → List ℕ
+abbrev pub ways_text : Grid → List OutputUnit → List ℕ
 ways_text grid row = texts_of (way_at grid) row

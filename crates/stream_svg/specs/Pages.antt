@@ -1,7 +1,7 @@
 -- The whole document of a drawing.
 use Rattle.std.specs.Prelude.{ℕ, ◌+◌, ◌*◌, max, Bool, true, false, List, [], ◌∷◌, ◌++◌, length, codes, decimal}
 use Rattle.std.specs.List.{concat, list_any}
-use Rattle.stream_svg.specs.declared.caption.Caption.{Caption}
+use Rattle.stream_svg.specs.declared.writing.Caption.{Caption}
 use Rattle.stream_svg.specs.declared.grid.Grid.{Grid}
 use Rattle.stream_svg.specs.declared.grid.TheConstants.{FOOT, LEAST_WIDTH, LEFT, OUTPUT_HEIGHT, RIGHT}
 use Rattle.stream_svg.specs.declared.layout.Layout.{Layout}

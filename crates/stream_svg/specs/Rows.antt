@@ -2,13 +2,13 @@
 use Rattle.std.specs.Prelude.{ℕ, ◌+◌, ◌-◌, Bool, true, false, nat_lt, Option, None, Some, List, [], ◌∷◌, ◌++◌, codes, decimal, slice_get, if◌then◌else◌, is_some}
 use Rattle.std.specs.List.{concat, zip}
 use Rattle.unit_outcomes.specs.Names.{name_of}
-use Rattle.stream_svg.specs.declared.caption.Caption.{Caption}
+use Rattle.stream_svg.specs.declared.writing.Caption.{Caption}
 use Rattle.stream_svg.specs.declared.geometry.Rect.{Rect}
 use Rattle.stream_svg.specs.declared.grid.Grid.{Grid}
-use Rattle.stream_svg.specs.declared.output_row.Shown.{Shown}
+use Rattle.stream_svg.specs.declared.output_row.OutputUnit.{OutputUnit}
 use Rattle.stream_svg.specs.declared.unit.DrawnUnit.{DrawnUnit}
-use Rattle.stream_svg.specs.declared.unit.Kind.{Kind}
-use Rattle.stream_svg.specs.declared.unit.Kind.TheVariants as kinds
+use Rattle.stream_svg.specs.declared.unit.UnitKind.{UnitKind}
+use Rattle.stream_svg.specs.declared.unit.UnitKind.TheVariants as kinds
 use Rattle.stream_svg.specs.Arcs.{arcs_text}
 use Rattle.stream_svg.specs.Boxes.{output_box, stream_box}
 use Rattle.stream_svg.specs.Captions.{lines_of}
@@ -48,7 +48,7 @@ reason_text box class reason = concat (
     ∷ decimal (box.y + box.height + 8) ∷ codes ") rotate(90)\">" ∷ reason ∷ codes "</text>" ∷ [])
 
 -- of what a unit is drawn as
-abbrev pub reason_of : Rect → Kind → List ℕ
+abbrev pub reason_of : Rect → UnitKind → List ℕ
 reason_of box (kinds.Picture picture) = []
 reason_of box (kinds.Fault fault) = reason_text box (codes "why") (name_of fault)
 reason_of box kinds.Empty = reason_text box (codes "why none") (codes "no picture")
@@ -76,10 +76,10 @@ slot_text grid slot unit position =
     if nat_lt slot grid.units then shown_text (output_box grid slot) unit position else []
 
 -- what it shows: the unit of its place, if there is one
-abbrev pub shown_unit : Grid → ℕ → Shown → Option DrawnUnit → List ℕ
+abbrev pub shown_unit : Grid → ℕ → OutputUnit → Option DrawnUnit → List ℕ
 shown_unit grid slot shown None = []
 shown_unit grid slot shown (Some unit) = slot_text grid slot unit shown.position
 
 -- the second row
-abbrev pub output_text : Grid → List DrawnUnit → List Shown → List ℕ
+abbrev pub output_text : Grid → List DrawnUnit → List OutputUnit → List ℕ
 output_text grid units row = texts_of (λ slot shown. shown_unit grid slot shown (slice_get units shown.place)) row

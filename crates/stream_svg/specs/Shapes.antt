@@ -4,7 +4,7 @@ use Rattle.std.specs.List.{concat}
 use Rattle.stream_svg.specs.declared.geometry.Rect.{Rect}
 use Rattle.stream_svg.specs.declared.letters.Letter.{Letter}
 use Rattle.stream_svg.specs.declared.unit.EditMark.{EditMark}
-use Rattle.stream_svg.specs.declared.unit.Kind.{Kind}
+use Rattle.stream_svg.specs.declared.unit.UnitKind.{UnitKind}
 use Rattle.stream_svg.specs.Letters.{class_of, first_class, letters_of, sign_of}
 use Rattle.stream_svg.specs.Texts.{texts_of}
 
@@ -32,7 +32,7 @@ fill_text box parts place letter =
     rect_text (codes "box " ++ class_of letter) (part_left box parts place) (part_width box parts) box
 
 -- the fills of a box: its slice types side by side
-abbrev pub fills_text : Rect → Kind → List ℕ
+abbrev pub fills_text : Rect → UnitKind → List ℕ
 fills_text box kind = texts_of (fill_text box (length (letters_of kind))) (letters_of kind)
 
 -- the letter of a slice type at a place of so many
@@ -42,7 +42,7 @@ letter_text box parts place letter = concat (
     ∷ codes "\" y=\"" ∷ decimal (box.y + 14) ∷ codes "\">" ∷ sign_of letter ∷ codes "</text>" ∷ [])
 
 -- the letters of a box
-abbrev pub letters_text : Rect → Kind → List ℕ
+abbrev pub letters_text : Rect → UnitKind → List ℕ
 letters_text box kind = texts_of (letter_text box (length (letters_of kind))) (letters_of kind)
 
 -- how wide a number is, in pixels
@@ -64,7 +64,7 @@ turned_text box class number down = concat (
     ∷ decimal (box.y + down - 3) ∷ codes ") rotate(-90)\">" ∷ decimal number ∷ codes "</text>" ∷ [])
 
 -- a number in a box, at this height below its upper edge: upright where it isn't too wide
-abbrev pub number_text : Rect → Kind → ℕ → ℕ → List ℕ
+abbrev pub number_text : Rect → UnitKind → ℕ → ℕ → List ℕ
 number_text box kind number down =
     if nat_le (width_of number) box.width then upright_text box (first_class (letters_of kind)) number down
     else turned_text box (first_class (letters_of kind)) number down

@@ -6,7 +6,7 @@ ghost use Rattle.stream_svg.specs.Boxes.{IsSmall, stream_box};
 
 use crate::geometry::{Point, Rect};
 use crate::grid::{Grid, MOST_BAND};
-use crate::unit::{DrawnUnit, RefList, Reference};
+use crate::unit::{DrawnReference, DrawnUnit, RefList};
 use h264_types::pictures::AuId;
 
 /// Where the stub of an arc ends whose frame isn't drawn.
@@ -21,7 +21,7 @@ const MOST_DEPTH: usize = 150;
 /// An arc from a unit to a frame that one of its lists names.
 #[derive(Clone, Copy, Debug, PartialEq, Eq)]
 pub struct Arc {
-    pub reference: Reference,
+    pub reference: DrawnReference,
     /// At the box of the unit.
     pub from: Point,
     /// At the box of the frame's unit, or left of all boxes.
@@ -35,7 +35,7 @@ pub struct Arc {
 /// The arc from the unit at a place to a frame that one of its lists names.
 ///
 /// Where the frame's unit isn't drawn, it is a stub that ends left of all boxes.
-pub fn arc_of(grid: Grid, units: &[DrawnUnit], place: usize, reference: Reference) -> Arc
+pub fn arc_of(grid: Grid, units: &[DrawnUnit], place: usize, reference: DrawnReference) -> Arc
     requires units { grid.units ≡ length units.now }
     requires within { place < length units.now }
     ensures value { result ≡ arc_of grid units.now place reference }

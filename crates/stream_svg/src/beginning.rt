@@ -10,7 +10,7 @@ use crate::grid::HEAD;
 use crate::lines::{write_begin, write_way};
 use crate::page::Page;
 use crate::style::{DOUBT_LEGEND, EDITS_LEGEND, LEGEND, LEGEND_END, STYLE};
-use crate::{DrawnUnit, Grid, Kind, Layout, Shown};
+use crate::{DrawnUnit, Grid, Layout, OutputUnit, UnitKind};
 use std::alloc::AllocError;
 
 /// Writes what stands before the first unit: the head, where periods begin, and the ways between
@@ -143,17 +143,17 @@ fn write_begin_at(
 }
 
 /// Whether a period begins with a unit.
-fn begins_period(kind: Kind) -> bool
+fn begins_period(kind: UnitKind) -> bool
     ensures { result ≡ begins_period kind }
 {
     match kind {
-        Kind::Picture(picture) => picture.begins_period,
-        Kind::Fault(_) | Kind::Empty => false,
+        UnitKind::Picture(picture) => picture.begins_period,
+        UnitKind::Fault(_) | UnitKind::Empty => false,
     }
 }
 
 /// Writes where periods begin in the second row.
-fn write_output_begins(page: &mut Page, grid: Grid, row: &[Shown]) -> Result<(), AllocError>
+fn write_output_begins(page: &mut Page, grid: Grid, row: &[OutputUnit]) -> Result<(), AllocError>
     ensures { OnOk result (Grows page.old.bytes.items page.new.bytes.items
         (output_begins_text grid row.now)) }
 {
@@ -169,9 +169,9 @@ fn write_output_begins(page: &mut Page, grid: Grid, row: &[Shown]) -> Result<(),
 fn write_output_begin_at(
     page: &mut Page,
     grid: Grid,
-    row: &[Shown],
+    row: &[OutputUnit],
     slot: usize,
-    shown: Shown,
+    shown: OutputUnit,
 ) -> Result<(), AllocError>
     ensures { OnOk result (Grows page.old.bytes.items page.new.bytes.items
         (output_begin_at grid row.now slot shown)) }
@@ -189,7 +189,7 @@ fn write_output_begin_at(
 }
 
 /// The period of the picture before a slot; 0 before the first.
-fn period_before(row: &[Shown], slot: usize) -> usize
+fn period_before(row: &[OutputUnit], slot: usize) -> usize
     ensures { result ≡ period_before row.now slot }
 {
     if slot == 0 {
@@ -202,7 +202,7 @@ fn period_before(row: &[Shown], slot: usize) -> usize
 }
 
 /// Writes the ways between the rows.
-fn write_ways(page: &mut Page, grid: Grid, row: &[Shown]) -> Result<(), AllocError>
+fn write_ways(page: &mut Page, grid: Grid, row: &[OutputUnit]) -> Result<(), AllocError>
     ensures { OnOk result (Grows page.old.bytes.items page.new.bytes.items
         (ways_text grid row.now)) }
 {
@@ -215,7 +215,12 @@ fn write_ways(page: &mut Page, grid: Grid, row: &[Shown]) -> Result<(), AllocErr
 }
 
 /// Writes the way to the picture at a slot.
-fn write_way_at(page: &mut Page, grid: Grid, slot: usize, shown: Shown) -> Result<(), AllocError>
+fn write_way_at(
+    page: &mut Page,
+    grid: Grid,
+    slot: usize,
+    shown: OutputUnit,
+) -> Result<(), AllocError>
     ensures { OnOk result (Grows page.old.bytes.items page.new.bytes.items
         (way_at grid slot shown)) }
 {

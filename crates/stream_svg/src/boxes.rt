@@ -8,11 +8,11 @@ ghost use Rattle.stream_svg.specs.Texts.{Grows};
 
 use crate::letters::{Letter, class_over, letters_of};
 use crate::page::Page;
-use crate::{Kind, Rect};
+use crate::{Rect, UnitKind};
 use std::alloc::AllocError;
 
 /// Writes the box of a unit: its slice types side by side.
-pub(crate) fn write_fills(page: &mut Page, area: Rect, kind: Kind) -> Result<(), AllocError>
+pub(crate) fn write_fills(page: &mut Page, area: Rect, kind: UnitKind) -> Result<(), AllocError>
     requires { IsSmall area }
     ensures { OnOk result (Grows page.old.bytes.items page.new.bytes.items (fills_text area kind)) }
 {
@@ -47,7 +47,7 @@ fn write_fill(
 }
 
 /// Writes the letters of a unit's slice types into its box.
-pub(crate) fn write_letters(page: &mut Page, area: Rect, kind: Kind) -> Result<(), AllocError>
+pub(crate) fn write_letters(page: &mut Page, area: Rect, kind: UnitKind) -> Result<(), AllocError>
     requires { IsSmall area }
     ensures { OnOk result (Grows page.old.bytes.items page.new.bytes.items
         (letters_text area kind)) }
@@ -115,7 +115,7 @@ pub(crate) fn write_rect(page: &mut Page, class: &str, area: Rect) -> Result<(),
 pub(crate) fn write_number(
     page: &mut Page,
     area: Rect,
-    kind: Kind,
+    kind: UnitKind,
     number: usize,
     down: usize,
 ) -> Result<(), AllocError>

@@ -9,7 +9,7 @@ ghost use Rattle.stream_svg.specs.Texts.{Grows};
 use crate::boxes::{write_fills, write_number};
 use crate::edit_marks::{classes_of, write_doubt, write_hatch};
 use crate::page::Page;
-use crate::{DrawnUnit, Grid, Kind, Layout, Rect, Shown};
+use crate::{DrawnUnit, Grid, Layout, OutputUnit, Rect, UnitKind};
 use std::alloc::AllocError;
 
 /// Writes what stands after the last unit of the stream's row: the names of faults, and the second
@@ -42,14 +42,14 @@ fn write_reasons(page: &mut Page, grid: Grid, units: &[DrawnUnit]) -> Result<(),
 }
 
 /// Writes the name of a unit's fault, or that it has no picture, below its box.
-fn write_reason(page: &mut Page, area: Rect, kind: Kind) -> Result<(), AllocError>
+fn write_reason(page: &mut Page, area: Rect, kind: UnitKind) -> Result<(), AllocError>
     requires { IsSmall area }
     ensures { OnOk result (Grows page.old.bytes.items page.new.bytes.items (reason_of area kind)) }
 {
     match kind {
-        Kind::Picture(_) => Ok(()),
-        Kind::Fault(fault) => write_words(page, area, "why", fault.name()),
-        Kind::Empty => write_words(page, area, "why none", "no picture"),
+        UnitKind::Picture(_) => Ok(()),
+        UnitKind::Fault(fault) => write_words(page, area, "why", fault.name()),
+        UnitKind::Empty => write_words(page, area, "why none", "no picture"),
     }
 }
 
@@ -70,7 +70,7 @@ fn write_output(
     page: &mut Page,
     grid: Grid,
     units: &[DrawnUnit],
-    row: &[Shown],
+    row: &[OutputUnit],
 ) -> Result<(), AllocError>
     ensures { OnOk result (Grows page.old.bytes.items page.new.bytes.items
         (output_text grid units.now row.now)) }
@@ -89,7 +89,7 @@ fn write_slot(
     grid: Grid,
     units: &[DrawnUnit],
     slot: usize,
-    shown: Shown,
+    shown: OutputUnit,
 ) -> Result<(), AllocError>
     ensures { OnOk result (Grows page.old.bytes.items page.new.bytes.items
         (shown_unit grid slot shown (slice_get units.now shown.place))) }

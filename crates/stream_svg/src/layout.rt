@@ -6,8 +6,8 @@ ghost use Rattle.stream_svg.specs.OutputRow.{is_before, shown_units};
 
 use crate::arc::band_of;
 use crate::grid::{Grid, MOST_BAND};
-use crate::output_row::{Shown, output_row};
-use crate::unit::{DrawnUnit, Kind, RefList};
+use crate::output_row::{OutputUnit, output_row};
+use crate::unit::{DrawnUnit, RefList, UnitKind};
 use std::alloc::{AllocError, Global};
 
 /// The width that the boxes of a drawing take together, where they needn't be narrower or wider
@@ -19,7 +19,7 @@ const ROW: usize = 1200;
 pub struct Layout {
     pub grid: Grid,
     /// The second row: the pictures in output order.
-    pub output: Vec<Shown>,
+    pub output: Vec<OutputUnit>,
 }
 
 /// Lays out these units, in stream order.
@@ -60,7 +60,7 @@ fn below_of(units: &[DrawnUnit]) -> usize
 {
     if units
         .iter()
-        .all(|unit| matches!(unit.kind, Kind::Picture(_)))
+        .all(|unit| matches!(unit.kind, UnitKind::Picture(_)))
     {
         band_of(units, RefList::Zero)
     } else {

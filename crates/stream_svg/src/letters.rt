@@ -3,7 +3,7 @@
 ghost use Rattle.std.specs.Prelude.{◌≡◌, ◌≤◌, length};
 ghost use Rattle.stream_svg.specs.Letters.{class_of, first_class, letters_by, letters_of, sign_of};
 
-use crate::{Kind, SliceTypes};
+use crate::{SliceTypes, UnitKind};
 
 /// A slice type, or what stands in its place.
 #[derive(Clone, Copy, Debug)]
@@ -44,14 +44,14 @@ impl Letter {
 }
 
 /// The letters of a unit's box, of which there is one at least.
-pub(crate) fn letters_of(kind: Kind) -> &'static [Letter]
+pub(crate) fn letters_of(kind: UnitKind) -> &'static [Letter]
     ensures letters { result.now ≡ letters_of kind }
     ensures few { length result.now ≤ 3 }
 {
     match kind {
-        Kind::Picture(picture) => letters_of_types(picture.types),
-        Kind::Fault(_) => &[Letter::Fault],
-        Kind::Empty => &[Letter::Nothing],
+        UnitKind::Picture(picture) => letters_of_types(picture.types),
+        UnitKind::Fault(_) => &[Letter::Fault],
+        UnitKind::Empty => &[Letter::Nothing],
     }
 }
 
@@ -74,7 +74,7 @@ fn letters_of_types(types: SliceTypes) -> &'static [Letter]
 }
 
 /// The class of what is written over a unit's box.
-pub(crate) fn class_over(kind: Kind) -> &'static str
+pub(crate) fn class_over(kind: UnitKind) -> &'static str
     ensures { result.now ≡ first_class (letters_of kind) }
 {
     match letters_of(kind) {

@@ -12,7 +12,6 @@
 mod arc;
 mod beginning;
 mod boxes;
-mod caption;
 mod edit_marks;
 mod end;
 mod escape;
@@ -30,12 +29,13 @@ mod unit;
 mod writing;
 
 pub use arc::{Arc, arc_of};
-pub use caption::Caption;
 pub use escape::{escapes_are_read_back, push_escaped};
 pub use geometry::{Point, Rect};
 pub use grid::{Grid, MOST_UNITS};
 pub use laws::boxes_are_apart;
 pub use layout::{Layout, lay_out};
-pub use output_row::Shown;
-pub use unit::{DrawnUnit, EditMark, Kind, Picture, PictureState, RefList, Reference, SliceTypes};
-pub use writing::document;
+pub use output_row::OutputUnit;
+pub use unit::{
+    DrawnPicture, DrawnReference, DrawnUnit, EditMark, PictureState, RefList, SliceTypes, UnitKind,
+};
+pub use writing::{Caption, document};

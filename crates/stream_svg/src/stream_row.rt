@@ -7,11 +7,11 @@ ghost use Rattle.stream_svg.specs.Rows.{box_text, id_height, shapes_text, unit_t
 ghost use Rattle.stream_svg.specs.Texts.{Grows};
 
 use crate::boxes::{write_fills, write_letters, write_number};
-use crate::caption::Caption;
 use crate::edit_marks::{write_doubt, write_hatch, write_picture};
 use crate::lines::write_arc;
 use crate::page::Page;
-use crate::{DrawnUnit, Grid, Rect, Reference, arc_of};
+use crate::writing::Caption;
+use crate::{DrawnReference, DrawnUnit, Grid, Rect, arc_of};
 use std::alloc::AllocError;
 
 /// Writes the stream's row.
@@ -103,7 +103,7 @@ fn write_arcs(
     grid: Grid,
     units: &[DrawnUnit],
     place: usize,
-    references: &[Reference],
+    references: &[DrawnReference],
 ) -> Result<(), AllocError>
     requires units { grid.units ≡ length units.now }
     requires within { place < length units.now }
@@ -122,7 +122,7 @@ fn write_reference(
     grid: Grid,
     units: &[DrawnUnit],
     place: usize,
-    reference: Reference,
+    reference: DrawnReference,
 ) -> Result<(), AllocError>
     requires units { grid.units ≡ length units.now }
     requires within { place < length units.now }

@@ -7,9 +7,9 @@ use unit_outcomes::ValidityFault;
 #[derive(Debug, Drop)]
 pub struct DrawnUnit {
     pub id: AuId,
-    pub kind: Kind,
+    pub kind: UnitKind,
     /// The frames that its lists name, each once for each list.
-    pub references: Vec<Reference>,
+    pub references: Vec<DrawnReference>,
     /// Whether its picture may be made of other frames than were meant.
     pub in_doubt: bool,
     /// What edits did to it, where some were made.
@@ -37,8 +37,8 @@ pub enum PictureState {
 
 /// What a unit is drawn as.
 #[derive(Clone, Copy, Debug, PartialEq, Eq)]
-pub enum Kind {
-    Picture(Picture),
+pub enum UnitKind {
+    Picture(DrawnPicture),
     Fault(ValidityFault),
     /// The unit has no slice.
     Empty,
@@ -46,7 +46,7 @@ pub enum Kind {
 
 /// What is drawn of a valid unit.
 #[derive(Clone, Copy, Debug, PartialEq, Eq)]
-pub struct Picture {
+pub struct DrawnPicture {
     pub types: SliceTypes,
     /// How many pictures of the stream are output before it.
     pub position: usize,
@@ -64,7 +64,7 @@ pub struct SliceTypes {
 
 /// A frame that a list of a unit names.
 #[derive(Clone, Copy, Debug, PartialEq, Eq)]
-pub struct Reference {
+pub struct DrawnReference {
     pub list: RefList,
     /// The unit of the frame.
     pub frame: AuId,

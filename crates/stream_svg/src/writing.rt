@@ -4,12 +4,18 @@ ghost use Rattle.std.specs.Prelude.{◌≡◌, ◌++◌, IfOk, OnOk, length};
 ghost use Rattle.stream_svg.specs.Pages.{document_text};
 
 use crate::beginning::write_beginning;
-use crate::caption::Caption;
 use crate::end::write_end;
 use crate::page::Page;
 use crate::stream_row::write_units;
 use crate::{DrawnUnit, Layout};
 use std::alloc::{AllocError, Global};
+
+/// What is said of a unit beside its box.
+#[derive(Debug, Drop)]
+pub struct Caption {
+    /// Its lines, which are its title.
+    pub lines: String,
+}
 
 /// The document of these units, laid out so, each with what is said of it, of a stream of so many
 /// units; with the legend of edits where some were made.

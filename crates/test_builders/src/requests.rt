@@ -3,7 +3,7 @@
 ghost use Rattle.std.specs.Prelude.{◌≡◌, ◌*◌, IfOk};
 
 use bytes::Bytes;
-use h264_controls::{Controls, References, Request, Work};
+use h264_controls::{Controls, References, Request, RequestBody};
 use h264_types::base::Shared;
 use h264_types::pictures::AuId;
 use std::alloc::{AllocError, Global};
@@ -27,13 +27,13 @@ pub fn request_of(
 ) -> Result<Request, AllocError>
     ensures { IfOk result (λ request. request.timestamp ≡ 1000 * id) }
 {
-    let work = Work {
+    let body = RequestBody {
         controls,
         bytes: Bytes::copy_from_slice(alloc, bytes)?,
     };
     let references = References::new(references.to_vec(alloc)?);
     Ok(Request {
-        work: shared(alloc, work)?,
+        body: shared(alloc, body)?,
         timestamp: AuId::new(id).timestamp(),
         references: shared(alloc, references)?,
         hold,

@@ -1,16 +1,18 @@
 //! The kernel's structs of a request.
 
-use frame_requests::layouts::{DecodeParams, Pps, ScalingMatrix, SliceParams, Sps};
+use frame_requests::layouts::{
+    DecodeParamsLayout, PpsLayout, ScalingMatrixLayout, SliceParamsLayout, SpsLayout,
+};
 use h264_controls::Request;
 
 /// The controls of a request as the kernel's structs, but for the weights.
 #[derive(Clone, Copy)]
 struct KernelControls {
-    pps: Pps,
-    sps: Sps,
-    scaling_matrix: ScalingMatrix,
-    slice_params: SliceParams,
-    decode_params: DecodeParams,
+    pps: PpsLayout,
+    sps: SpsLayout,
+    scaling_matrix: ScalingMatrixLayout,
+    slice_params: SliceParamsLayout,
+    decode_params: DecodeParamsLayout,
 }
 
 impl KernelControls {
@@ -20,11 +22,11 @@ impl KernelControls {
     fn of(request: &Request) -> KernelControls {
         let controls = request.controls();
         KernelControls {
-            pps: Pps::of(&controls.sets.pps),
-            sps: Sps::of(&controls.sets.sps),
-            scaling_matrix: ScalingMatrix::of(&controls.sets.scaling_matrix),
-            slice_params: SliceParams::of(&controls.slice_params),
-            decode_params: DecodeParams::of(&controls.decode_params, &request.references),
+            pps: PpsLayout::of(&controls.sets.pps),
+            sps: SpsLayout::of(&controls.sets.sps),
+            scaling_matrix: ScalingMatrixLayout::of(&controls.sets.scaling_matrix),
+            slice_params: SliceParamsLayout::of(&controls.slice_params),
+            decode_params: DecodeParamsLayout::of(&controls.decode_params, &request.references),
         }
     }
 }

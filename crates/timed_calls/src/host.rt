@@ -9,7 +9,7 @@ use anyhow::{Result, bail};
 use bytes::Bytes;
 use h264_types::pictures::AuId;
 use stand_in_device::{Device, Undone};
-use stand_in_session::{Config, Edit, Landing, Place, Session, Shown};
+use stand_in_session::{Config, Edit, InsertionPoint, Landing, Session, Shown};
 use std::alloc::Global;
 use unit_outcomes::Outcome;
 
@@ -32,10 +32,10 @@ impl<'a> Host<'a> {
     /// A session into which these units were inserted one after the other.
     pub(crate) fn new(alloc: Global, units: &'a [&'a [u8]]) -> Result<Host<'a>> {
         let mut session = Session::new(alloc, Config { cache: CACHE })?;
-        let mut place = Place::First;
+        let mut place = InsertionPoint::First;
         for unit in units {
             let receipt = session.edit(Edit::Insert(place, Bytes::copy_from_slice(alloc, unit)?))?;
-            place = Place::After(receipt.id);
+            place = InsertionPoint::After(receipt.id);
         }
         Ok(Host {
             alloc,

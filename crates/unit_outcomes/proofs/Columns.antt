@@ -6,7 +6,7 @@ use Rattle.std.proofs.lemmas.Option.{same_Some}
 use Rattle.unit_outcomes.specs.declared.outcome.Outcome.{Outcome}
 use Rattle.unit_outcomes.specs.SeenUnits.{IsIdrAt, SeenUnit, seen_units, tells_idr}
 use Rattle.unit_outcomes.specs.InDoubt.{AreDoubts, IsDoubt}
-use Rattle.unit_outcomes.specs.declared.doubts.doubt.Doubt.{Doubt}
+use Rattle.unit_outcomes.specs.declared.doubts.walk.Doubt.{Doubt}
 
 -- the unit of three columns at a place
 pub seen_at : (ids : List ℕ) (references : List Bool) (outcomes : List Outcome) (at id : ℕ) (reference : Bool) (outcome : Outcome)

@@ -7,7 +7,7 @@ use Rattle.unit_outcomes.specs.SeenUnits.{BreaksAt, HasId, IsIdrAt, SeenUnit, is
 use Rattle.unit_outcomes.specs.Breaks.{Lasts}
 use Rattle.unit_outcomes.specs.InDoubt.{IdsDiffer, InDoubt, IsDoubt, IsFollowed}
 use Rattle.unit_outcomes.specs.Walks.{HasBreakBehind, HasFirst, HasNoIdrBehind, IsSeen, IsSound, Keeps, LastsBefore, TellsSound, doubt_of, first_after, sound_after}
-use Rattle.unit_outcomes.specs.declared.doubts.doubt.Doubt.{Doubt}
+use Rattle.unit_outcomes.specs.declared.doubts.walk.Doubt.{Doubt}
 use Rattle.unit_outcomes.proofs.Doubted.{follows_is, idr_follows, only_seen, told_is, tells_sound}
 
 -- the left side of an or that fails is dropped

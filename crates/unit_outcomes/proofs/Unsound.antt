@@ -47,8 +47,8 @@ module _ (sound : ℕ → Bool) where
   slice_unsound : (request : Request) → slice_is_sound sound request ≡ false → Unsound request
   slice_unsound request fails =
       let units = request.references in
-      let zero = request.work.controls.slice_params.ref_pic_list0 in
-      let one = request.work.controls.slice_params.ref_pic_list1 in
+      let zero = request.body.controls.slice_params.ref_pic_list0 in
+      let one = request.body.controls.slice_params.ref_pic_list1 in
       let test = λ (entry : Option ℕ). is_sound sound (named_unit units entry) in
       elim (and_cases (list_is_sound sound units zero) (list_is_sound sound units one) fails) [
         | inl first ↦
@@ -87,8 +87,8 @@ module _ (sound : ℕ → Bool) where
       → Contains plan.requests request → HasEntry request named → is_sound sound named ≡ true
   sound_entry plan request named holds among has =
       let units = request.references in
-      let zero = request.work.controls.slice_params.ref_pic_list0 in
-      let one = request.work.controls.slice_params.ref_pic_list1 in
+      let zero = request.body.controls.slice_params.ref_pic_list0 in
+      let one = request.body.controls.slice_params.ref_pic_list1 in
       let test = λ (entry : Option ℕ). is_sound sound (named_unit units entry) in
       let slice = all_pass (slice_is_sound sound) plan.requests request holds among in
       let parts = and_parts (list_is_sound sound units zero) (list_is_sound sound units one) slice in

@@ -13,8 +13,8 @@ named_unit units (Some index) = slice_get units index
 -- an entry of list 0 or list 1 of a slice names this unit, or nothing
 pub record HasEntry (request : Request) (named : Option ℕ) : Type 0 where
   pub entry : Option ℕ
-  pub listed : Contains request.work.controls.slice_params.ref_pic_list0 entry
-      ⊎ Contains request.work.controls.slice_params.ref_pic_list1 entry
+  pub listed : Contains request.body.controls.slice_params.ref_pic_list0 entry
+      ⊎ Contains request.body.controls.slice_params.ref_pic_list1 entry
   pub names : named_unit request.references entry ≡ named
 
 -- an entry of one of the lists of the valid unit at a place names this unit, or nothing
@@ -34,5 +34,5 @@ IsPlan units at plan = (unit : SeenUnit) × (slice_get units at ≡ Some unit) �
 -- the lists of a slice have no entries
 abbrev pub HasNoEntries : Request → Type 0
 HasNoEntries request =
-    (request.work.controls.slice_params.ref_pic_list0 ≡ [])
-    × (request.work.controls.slice_params.ref_pic_list1 ≡ [])
+    (request.body.controls.slice_params.ref_pic_list0 ≡ [])
+    × (request.body.controls.slice_params.ref_pic_list1 ≡ [])

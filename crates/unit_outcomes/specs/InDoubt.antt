@@ -3,7 +3,7 @@ use Rattle.std.specs.Prelude.{◌≡◌, ℕ, ◌+◌, ◌<◌, ◌≤◌, ◌�
 use Rattle.unit_outcomes.specs.SeenUnits.{BreaksAt, HasId, IsIdrAt, SeenUnit}
 use Rattle.unit_outcomes.specs.Entries.{Lists}
 use Rattle.unit_outcomes.specs.Breaks.{Follows, Lasts}
-use Rattle.unit_outcomes.specs.declared.doubts.doubt.Doubt.{Doubt}
+use Rattle.unit_outcomes.specs.declared.doubts.walk.Doubt.{Doubt}
 
 -- an entry of the unit at a place names the earlier unit of its id, where no valid IDR picture stands
 -- behind that one, up to the unit of the entry itself (8.2.5.1: it unmarks all frames)

@@ -22,7 +22,7 @@ is_break is_reference Empty = false
 -- the first slice of a picture, and so each, is one of an IDR picture
 abbrev pub are_of_idr : List Request → Bool
 are_of_idr [] = false
-are_of_idr (request ∷ requests) = request.work.controls.decode_params.flags.idr_pic
+are_of_idr (request ∷ requests) = request.body.controls.decode_params.flags.idr_pic
 
 -- a valid IDR picture
 abbrev pub is_idr_picture : Outcome → Bool

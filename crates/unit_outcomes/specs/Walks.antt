@@ -8,8 +8,8 @@ use Rattle.unit_outcomes.specs.SeenUnits.{BreaksAt, HasId, IsIdrAt, SeenUnit, is
 use Rattle.unit_outcomes.specs.Entries.{named_unit}
 use Rattle.unit_outcomes.specs.InDoubt.{InDoubt}
 use Rattle.unit_outcomes.specs.Sets.{has}
-use Rattle.unit_outcomes.specs.declared.doubts.doubt.Doubt.{Doubt}
-use Rattle.unit_outcomes.specs.declared.doubts.walk.Walk.{Walk}
+use Rattle.unit_outcomes.specs.declared.doubts.walk.Doubt.{Doubt}
+use Rattle.unit_outcomes.specs.declared.doubts.walk.DoubtWalk.{DoubtWalk}
 
 -- a break before a place, behind which no valid IDR picture stands before that place
 pub record LastsBefore (units : List SeenUnit) (broken at : ℕ) : Type 0 where
@@ -63,7 +63,7 @@ pub record Keeps (units : List SeenUnit) (at : ℕ) (first : Option ℕ) (sound 
   pub only : (IsIdrAt units at → ⊥) → IsSome first → (id : ℕ) → sound id ≡ true → IsSeen units at id
 
 -- the walk went over the units before a place
-abbrev pub IsBefore : List SeenUnit → ℕ → Walk → Type 0
+abbrev pub IsBefore : List SeenUnit → ℕ → DoubtWalk → Type 0
 IsBefore units at walk = Keeps units at walk.first (has walk.sound)
 
 -- an entry names a unit that is sound
@@ -78,8 +78,8 @@ list_is_sound sound units entries = list_all (λ entry. is_sound sound (named_un
 -- all entries of the lists of a slice do
 abbrev pub slice_is_sound : (ℕ → Bool) → Request → Bool
 slice_is_sound sound request =
-    list_is_sound sound request.references request.work.controls.slice_params.ref_pic_list0
-    && list_is_sound sound request.references request.work.controls.slice_params.ref_pic_list1
+    list_is_sound sound request.references request.body.controls.slice_params.ref_pic_list0
+    && list_is_sound sound request.references request.body.controls.slice_params.ref_pic_list1
 
 -- all entries of the lists of a unit do
 abbrev pub names_sound : (ℕ → Bool) → Outcome → Bool

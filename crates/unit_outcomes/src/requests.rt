@@ -7,7 +7,7 @@ use std::alloc::{AllocError, Global};
 use std::marker::Model;
 
 /// The requests of a unit, one for each slice, in order. One alone takes no memory of its own
-/// beside its work.
+/// beside its body.
 #[derive(Debug)]
 pub struct Requests {
     items: Items,

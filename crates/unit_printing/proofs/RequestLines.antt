@@ -29,9 +29,9 @@ request_lines-more id i requests request below is =
 
 -- the parts of a line
 pub request_parts : (id slice : ℕ) (request : Request)
-    → (codes "request " ++ decimal id) ++ (slice_text slice request.timestamp request.work.controls.slice_params.header_bit_size
-    request.work.controls.slice_params.slice_type request.work.controls.decode_params.frame_num
-    ++ (codes " dpb " ++ (list_text entry_text (zip request.references request.work.controls.decode_params.dpb)
-    ++ (lists_text request.work.controls.slice_params.ref_pic_list0 request.work.controls.slice_params.ref_pic_list1 ++ hold_text request.hold))))
+    → (codes "request " ++ decimal id) ++ (slice_text slice request.timestamp request.body.controls.slice_params.header_bit_size
+    request.body.controls.slice_params.slice_type request.body.controls.decode_params.frame_num
+    ++ (codes " dpb " ++ (list_text entry_text (zip request.references request.body.controls.decode_params.dpb)
+    ++ (lists_text request.body.controls.slice_params.ref_pic_list0 request.body.controls.slice_params.ref_pic_list1 ++ hold_text request.hold))))
     ≡ request_text id slice request
 request_parts id slice request = simp append_assoc

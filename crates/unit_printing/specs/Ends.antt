@@ -1,8 +1,8 @@
 -- How `plan --json` ends (docs/OUTPUT.md).
 use Rattle.std.specs.Prelude.{◌≡◌, ◌≤◌, ℕ, List, [], Option, IfSome, Result, length}
 use Rattle.std.specs.Io.KnownBytes.{Keeps}
-use Rattle.access_unit.specs.Rooms.{IsStream, IsStreamRefused, most_units}
-use Rattle.access_unit.specs.declared.room.Refusal.{Refusal}
+use Rattle.access_unit.specs.StreamUnits.{IsStream, IsStreamRefused, most_units}
+use Rattle.access_unit.specs.declared.stream_units.Refusal.{Refusal}
 use Rattle.console_io.specs.Messages.{Tells, input_fault_text, print_fault_text}
 use Rattle.console_io.specs.declared.chunks.PrintFault.{PrintFault}
 use Rattle.console_io.specs.declared.chunks.PrintFault.TheVariants as print
@@ -10,7 +10,7 @@ use Rattle.console_io.specs.declared.input.InputFault.{InputFault}
 use Rattle.unit_printing.specs.JsonLines.{refused_line}
 use Rattle.unit_printing.specs.declared.json.json_line.JsonLine.{JsonLine}
 use Rattle.unit_printing.specs.Said.{Said, SaysStream}
-use Rattle.unit_printing.specs.declared.json.decode_mode.DecodeMode.{DecodeMode}
+use Rattle.unit_printing.specs.declared.json.encoding.DecodeMode.{DecodeMode}
 
 -- the text is a stream, and the lines of its units were written for a decoder of this mode
 pub record WritesJsonFor (says : JsonLine → List ℕ → Type 0) (mode : DecodeMode) (text : List ℕ) (old new : Option (List ℕ)) : Type 0 where

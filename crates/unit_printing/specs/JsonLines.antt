@@ -1,8 +1,8 @@
 -- The JSON object of a line (docs/OUTPUT.md).
 use Rattle.std.specs.Prelude.{ℕ, true, Option, map, option_map}
 use Rattle.std.specs.Option.{unwrap_or}
-use Rattle.access_unit.specs.declared.room.Refusal.{Refusal}
-use Rattle.unit_outcomes.specs.declared.doubts.doubt.Doubt.{Doubt}
+use Rattle.access_unit.specs.declared.stream_units.Refusal.{Refusal}
+use Rattle.unit_outcomes.specs.declared.doubts.walk.Doubt.{Doubt}
 use Rattle.frame_requests.specs.FrameRequests.{frame_request}
 use Rattle.unit_outcomes.specs.declared.outcome.Outcome.{Outcome}
 use Rattle.unit_outcomes.specs.declared.outcome.Outcome.TheVariants as outcomes
@@ -10,8 +10,8 @@ use Rattle.unit_outcomes.specs.declared.outcome.Plan.{Plan as PlanValue}
 use Rattle.h264_types.specs.declared.pictures.counts.Counts.{Counts}
 use Rattle.unit_printing.specs.RequestsJson.{request_json}
 use Rattle.unit_printing.specs.FramesJson.{frame_json}
-use Rattle.unit_printing.specs.declared.json.decode_mode.DecodeMode.{DecodeMode}
-use Rattle.unit_printing.specs.declared.json.decode_mode.DecodeMode.TheVariants.{SliceBased, FrameBased}
+use Rattle.unit_printing.specs.declared.json.encoding.DecodeMode.{DecodeMode}
+use Rattle.unit_printing.specs.declared.json.encoding.DecodeMode.TheVariants.{SliceBased, FrameBased}
 use Rattle.unit_printing.specs.declared.json.json_line.CountsJson.{CountsJson}
 use Rattle.unit_printing.specs.declared.json.json_line.HeadJson.{HeadJson}
 use Rattle.unit_printing.specs.declared.json.json_line.JsonLine.{JsonLine}
@@ -22,13 +22,13 @@ counts_json counts = record { top = counts.top; bottom = counts.bottom }
 
 -- what a plan has before its requests: the unit's id and position, and what is told of it
 abbrev pub head_json : ℕ → ℕ → PlanValue → Doubt → HeadJson
-head_json id position plan told = record {
+head_json id position plan doubt = record {
   unit = id;
   position = position;
   begins_period = plan.begins_period;
   counts = counts_json plan.counts;
-  follows = told.follows;
-  in_doubt = told.in_doubt;
+  follows = doubt.follows;
+  in_doubt = doubt.in_doubt;
 }
 
 -- the line of a plan: with the requests of its slices, or with that of its picture
@@ -40,11 +40,11 @@ plan_line FrameBased head plan = Frame (record {
 })
 
 -- the line of a unit's outcome, of which this is told
-abbrev pub told_line : DecodeMode → ℕ → Option ℕ → Outcome → Doubt → JsonLine
-told_line mode id position (outcomes.Plan plan) told =
-    plan_line mode (head_json id (unwrap_or position 0) plan told) plan
-told_line mode id position (outcomes.Fault fault) told = Fault id fault told.follows
-told_line mode id position outcomes.Empty told = NoPicture id true told.follows
+abbrev pub unit_line : DecodeMode → ℕ → Option ℕ → Outcome → Doubt → JsonLine
+unit_line mode id position (outcomes.Plan plan) doubt =
+    plan_line mode (head_json id (unwrap_or position 0) plan doubt) plan
+unit_line mode id position (outcomes.Fault fault) doubt = Fault id fault doubt.follows
+unit_line mode id position outcomes.Empty doubt = NoPicture id true doubt.follows
 
 -- the line of a unit that isn't there
 abbrev pub no_unit_line : ℕ → JsonLine

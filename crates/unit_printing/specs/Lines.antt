@@ -63,12 +63,12 @@ hold_text hold = (codes " hold " ++ decimal (if hold then 1 else 0)) ++ codes "\
 abbrev pub request_text : ℕ → ℕ → Request → List ℕ
 request_text id slice request =
     codes "request " ++ (decimal id ++ (codes "." ++ (decimal slice
-    ++ (codes " ts " ++ (decimal request.timestamp ++ (codes " bits " ++ (decimal request.work.controls.slice_params.header_bit_size
-    ++ (codes " type " ++ (decimal (slice_type_number request.work.controls.slice_params.slice_type)
-    ++ (codes " frame " ++ (decimal request.work.controls.decode_params.frame_num
-    ++ (codes " dpb " ++ (list_text entry_text (zip request.references request.work.controls.decode_params.dpb)
-    ++ (codes " l0 " ++ (list_text place_text request.work.controls.slice_params.ref_pic_list0
-    ++ (codes " l1 " ++ (list_text place_text request.work.controls.slice_params.ref_pic_list1
+    ++ (codes " ts " ++ (decimal request.timestamp ++ (codes " bits " ++ (decimal request.body.controls.slice_params.header_bit_size
+    ++ (codes " type " ++ (decimal (slice_type_number request.body.controls.slice_params.slice_type)
+    ++ (codes " frame " ++ (decimal request.body.controls.decode_params.frame_num
+    ++ (codes " dpb " ++ (list_text entry_text (zip request.references request.body.controls.decode_params.dpb)
+    ++ (codes " l0 " ++ (list_text place_text request.body.controls.slice_params.ref_pic_list0
+    ++ (codes " l1 " ++ (list_text place_text request.body.controls.slice_params.ref_pic_list1
     ++ (codes " hold " ++ (decimal (if request.hold then 1 else 0) ++ codes "\n")))))))))))))))))))
 
 -- the lines of the requests of a unit's slices, from this place on

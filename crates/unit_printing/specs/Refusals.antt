@@ -2,8 +2,8 @@
 use Rattle.std.specs.Prelude.{ℕ, ◌++◌, List, codes, decimal}
 use Rattle.access_unit.specs.Names.{name_of}
 use Rattle.access_unit.specs.Numbers.{number_of}
-use Rattle.access_unit.specs.declared.room.Refusal.{Refusal}
-use Rattle.access_unit.specs.declared.room.Refusal.TheVariants.{Split, Unit, StreamFull}
+use Rattle.access_unit.specs.declared.stream_units.Refusal.{Refusal}
+use Rattle.access_unit.specs.declared.stream_units.Refusal.TheVariants.{Split, Unit, StreamFull}
 
 -- the line of a refused stream
 abbrev pub refusal_text : Refusal → List ℕ

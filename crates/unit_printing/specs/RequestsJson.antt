@@ -14,11 +14,11 @@ abbrev pub request_json : Request → RequestJson
 request_json request = record {
   timestamp = request.timestamp;
   hold_capture_buf = request.hold;
-  bytes = length request.work.bytes;
-  v4l2_ctrl_h264_sps = sps_layout request.work.controls.sets.sps;
-  v4l2_ctrl_h264_pps = pps_layout request.work.controls.sets.pps;
-  v4l2_ctrl_h264_scaling_matrix = scaling_matrix_layout request.work.controls.sets.scaling_matrix;
-  v4l2_ctrl_h264_pred_weights = option_map pred_weights_layout request.work.controls.pred_weights;
-  v4l2_ctrl_h264_slice_params = slice_params_layout request.work.controls.slice_params;
-  v4l2_ctrl_h264_decode_params = decode_params_layout request.references request.work.controls.decode_params;
+  bytes = length request.body.bytes;
+  v4l2_ctrl_h264_sps = sps_layout request.body.controls.sets.sps;
+  v4l2_ctrl_h264_pps = pps_layout request.body.controls.sets.pps;
+  v4l2_ctrl_h264_scaling_matrix = scaling_matrix_layout request.body.controls.sets.scaling_matrix;
+  v4l2_ctrl_h264_pred_weights = option_map pred_weights_layout request.body.controls.pred_weights;
+  v4l2_ctrl_h264_slice_params = slice_params_layout request.body.controls.slice_params;
+  v4l2_ctrl_h264_decode_params = decode_params_layout request.references request.body.controls.decode_params;
 }

@@ -2,7 +2,7 @@
 use Rattle.std.specs.Prelude.{◌≡◌, ℕ, List, [], ◌∷◌, Option}
 use Rattle.std.specs.Io.KnownBytes.{Appends}
 use Rattle.unit_printing.specs.StreamLines.{AreStreamLines}
-use Rattle.unit_printing.specs.declared.json.decode_mode.DecodeMode.{DecodeMode}
+use Rattle.unit_printing.specs.declared.json.encoding.DecodeMode.{DecodeMode}
 use Rattle.unit_printing.specs.declared.json.json_line.JsonLine.{JsonLine}
 
 -- a text that says the line was written

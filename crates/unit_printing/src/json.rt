@@ -7,23 +7,19 @@
 //! over the `Encoder`, which a `JsonForm` names with the decoder's mode. `plan_json_for` reads a
 //! whole input, has its access units read in threads and folded by request_core, and writes the
 //! line of each, or that of the stream's refusal. Above are script_run, serve_answers and cli.
-
-mod decode_mode;
+mod doubts;
 mod encoding;
 mod folding;
 mod frame_json;
-mod json_form;
 mod json_line;
 mod numbered;
 mod plan_json;
 mod printing;
 mod request_json;
-mod telling;
 
-pub use decode_mode::DecodeMode;
-pub use encoding::{Encoder, Json};
+pub use doubts::doubts_of_units;
+pub use encoding::{DecodeMode, Encoder, Json, JsonForm};
 pub use frame_json::FrameJson;
-pub use json_form::JsonForm;
 pub use json_line::{CountsJson, FramePlanJson, HeadJson, JsonLine, PlanJson};
 pub use plan_json::plan_json_for;
 pub use request_json::{RequestJson, RequestsJson};

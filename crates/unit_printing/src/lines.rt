@@ -10,10 +10,8 @@ mod frames;
 mod lines;
 mod numbers;
 mod references;
-mod refusals;
 mod requests;
 mod tails;
 
 pub use lines::{UnitHead, UnitLines};
-pub use refusals::RefusalLine;
-pub use tails::write_tail;
+pub use tails::{RefusalLine, write_tail};

@@ -5,7 +5,7 @@ use Rattle.std.proofs.Math.Nat.{eq-or-lt_of_le}
 use Rattle.std.proofs.lemmas.Option.{slice_get_within, get_or_from_slice_get}
 use Rattle.decode_jobs.specs.Jobs.{JobValue}
 use Rattle.decode_jobs.specs.Keys.{Key}
-use Rattle.picture_store.specs.declared.refusals.TakeRefused.{TakeRefused}
+use Rattle.picture_store.specs.declared.answers.TakeRefused.{TakeRefused}
 use Rattle.stream_session.specs.Machines.{Machine}
 use Rattle.stream_session.specs.Needing.{AnswersTakeFor, IsAnyDueFor}
 use Rattle.stream_session.specs.Showing.{Shows}

@@ -1,4 +1,4 @@
 pub mod Wanted
 pub mod Taking
 pub mod Rests
-pub mod Counts
+pub mod JobCounts

@@ -2,7 +2,7 @@
 use Rattle.std.specs.Prelude.{◌≡◌, ℕ, ◌<◌, List, Option, None, Some, Result, Ok, Err, slice_get}
 use Rattle.decode_jobs.specs.Jobs.{JobValue}
 use Rattle.decode_jobs.specs.Keys.{Key}
-use Rattle.picture_store.specs.declared.refusals.TakeRefused.{TakeRefused}
+use Rattle.picture_store.specs.declared.answers.TakeRefused.{TakeRefused}
 use Rattle.stream_session.specs.Machines.{Machine}
 use Rattle.stream_session.specs.Needing.{AnswersTakeFor, IsAnyDueFor}
 

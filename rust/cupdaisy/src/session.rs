@@ -30,12 +30,12 @@ impl<T> fmt::Debug for Session<T> {
 
 fn receipt(told: Result<cupdaisy_receipt, u32>) -> Result<Receipt, Error> {
     let told = told.map_err(Error::of)?;
-    let changed = stretch(told.changed_from, told.changed_count);
+    let changed = range(told.changed_from, told.changed_count);
     Ok(Receipt { unit: UnitId(told.id), number: told.number, steps: told.steps, hashed: told.hashed, changed })
 }
 
-/// A stretch of places.
-fn stretch(from: u64, count: u64) -> Range<usize> {
+/// A range of places.
+fn range(from: u64, count: u64) -> Range<usize> {
     from as usize..(from + count) as usize
 }
 
@@ -110,7 +110,7 @@ impl<T> Session<T> {
         match self.raw.group(&asked, &texts, &mut ids, &mut told) {
             Ok(()) => {
                 let units = ids.into_iter().map(UnitId).collect();
-                let changed = stretch(told.changed_from, told.changed_count);
+                let changed = range(told.changed_from, told.changed_count);
                 Ok(Group { units, number: told.number, steps: told.steps, hashed: told.hashed, changed })
             }
             Err(status) => {
@@ -131,7 +131,7 @@ impl<T> Session<T> {
                 number: told.number,
                 steps: told.steps,
                 hashed: told.hashed,
-                changed: stretch(told.changed_from, told.changed_count),
+                changed: range(told.changed_from, told.changed_count),
             })
             .map_err(|status| LoadError { error: Error::of(status), index: told.index as usize, units })
     }

@@ -39,7 +39,7 @@ pub struct Receipt {
     pub steps: u64,
     /// How many bytes were hashed for it.
     pub hashed: u64,
-    /// The least stretch of places, of the stream after it, that has every unit which wasn't there before, or has another outcome
+    /// The least range of places, of the stream after it, that has every unit which wasn't there before, or has another outcome
     /// or key than before. Empty where there is none.
     pub changed: Range<usize>,
 }
@@ -80,7 +80,7 @@ pub struct Group {
     pub steps: u64,
     /// How many bytes were hashed for its edits.
     pub hashed: u64,
-    /// The least stretch of places that has every unit which wasn't so before its first edit.
+    /// The least range of places that has every unit which wasn't so before its first edit.
     pub changed: Range<usize>,
 }
 

@@ -2,10 +2,27 @@
 
 ghost use Rattle.std.specs.Prelude.{◌≡◌, ◌++◌, ℕ, List, [], Option, None, OnErr, OnOk};
 ghost use Rattle.console_io.specs.Saved.{AreKept, IsSaved, Saves, joined};
+ghost use Rattle.console_io.specs.declared.file_saving.folder.Unsaved.TheVariants.{Memory};
 
-use crate::file_saving::unsaved::Unsaved;
 use bytes::Bytes;
-use std::alloc::Global;
+use std::alloc::{AllocError, Global};
+
+/// Why a file isn't saved.
+#[derive(Clone, Copy, Debug, PartialEq, Eq)]
+pub enum Unsaved {
+    /// The operating system refused to write it.
+    Unwritten,
+    /// A growth was refused.
+    Memory,
+}
+
+impl From<AllocError> for Unsaved {
+    ghost from_gives = { λ _ unsaved. unsaved ≡ Memory };
+
+    fn from(_error: AllocError) -> Unsaved {
+        Unsaved::Memory
+    }
+}
 
 /// Where a file is written beside the one that it replaces.
 pub trait Folder {

@@ -1,7 +1,6 @@
 //! The operating system's files, of which one is written beside another.
 
-use crate::file_saving::folder::Folder;
-use crate::file_saving::unsaved::Unsaved;
+use crate::file_saving::folder::{Folder, Unsaved};
 use std::alloc::{AllocError, Global};
 use std::fs;
 use std::fs::{File, OpenOptions};

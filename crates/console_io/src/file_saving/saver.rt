@@ -3,9 +3,8 @@
 ghost use Rattle.std.specs.Prelude.{◌≡◌, ℕ, List, None};
 ghost use Rattle.console_io.specs.Saved.{Saves, joined};
 
-use crate::file_saving::folder::save_in;
+use crate::file_saving::folder::{Unsaved, save_in};
 use crate::file_saving::host::Host;
-use crate::file_saving::unsaved::Unsaved;
 use crate::{Directory, Files, Source};
 use bytes::Bytes;
 use std::alloc::Global;

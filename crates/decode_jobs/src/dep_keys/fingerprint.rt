@@ -7,8 +7,7 @@ ghost use Rattle.sha2.specs.Hashers.{Holds256};
 ghost use Rattle.sha2.specs.Sha256.{sha256};
 
 use crate::dep_keys::key_id::KeyId;
-use crate::dep_keys::node::Node;
-use crate::dep_keys::work::Work;
+use crate::dep_keys::node::{Content, Node};
 use sha2::{Digest, Sha256};
 use std::alloc::AllocError;
 
@@ -23,19 +22,19 @@ pub trait Fingerprint<W> {
         ensures { IfOk result (λ fingerprint. fingerprint ≡ digest node.now) };
 }
 
-/// The SHA-256 of the entries and of the bytes of the work.
+/// The SHA-256 of the entries and of the bytes of the content.
 #[derive(Clone, Copy, Debug, Drop)]
 pub struct Sha256Fingerprint;
 
-impl<W: Work> Fingerprint<W> for Sha256Fingerprint {
-    ghost digest = { λ node. sha256 (message node.entries (W.bytes node.work)) };
+impl<W: Content> Fingerprint<W> for Sha256Fingerprint {
+    ghost digest = { λ node. sha256 (message node.entries (W.bytes node.content)) };
 
     fn of(&mut self, node: &Node<W>) -> Result<[u8; 32], AllocError> {
         let mut hasher = Sha256::new();
         for entry in node.entries() {
             feed_entry(&mut hasher, *entry);
         }
-        node.work().feed(&mut hasher);
+        node.content().feed(&mut hasher);
         Ok(hasher.finalize())
     }
 }

@@ -9,16 +9,15 @@ use crate::dep_keys::fingerprint::{Fingerprint, Sha256Fingerprint};
 use crate::dep_keys::index::Index;
 use crate::dep_keys::key_id::KeyId;
 use crate::dep_keys::marks::needed;
-use crate::dep_keys::node::Node;
+use crate::dep_keys::node::{Content, Node};
 use crate::dep_keys::numbers::Numbers;
 use crate::dep_keys::slots::{add, find, index_of, keep_marked};
-use crate::dep_keys::work::Work;
 use std::alloc::{AllocError, Global};
 use std::marker::Model;
 
 /// Keys of pictures under numbers: equal numbers exactly for equal keys.
 ///
-/// A key is the tree of a picture's own work and, at each of its list entries, the key of the
+/// A key is the tree of a picture's own content and, at each of its list entries, the key of the
 /// picture named. It is kept as one node, which names the keys of its entries by their numbers.
 /// Clauses see the live numbers with their trees.
 #[derive(Debug)]
@@ -58,7 +57,7 @@ impl<W, F: Fingerprint<W>> Model for Keys<W, F> {
     ghost invariant = { λ keys. AreKept F.digest keys.slots.items keys.numbers keys.index };
 }
 
-impl<W: Work + Drop> Keys<W, Sha256Fingerprint> {
+impl<W: Content + Drop> Keys<W, Sha256Fingerprint> {
     /// No key, with nodes found by their SHA-256.
     pub fn new(alloc: Global) -> Keys<W, Sha256Fingerprint>
         ensures { result ≡ [] }
@@ -67,7 +66,7 @@ impl<W: Work + Drop> Keys<W, Sha256Fingerprint> {
     }
 }
 
-impl<W: Work + Drop, F: Fingerprint<W>> Keys<W, F> {
+impl<W: Content + Drop, F: Fingerprint<W>> Keys<W, F> {
     /// No key, with nodes found by this fingerprint.
     pub fn with(alloc: Global, fingerprint: F) -> Keys<W, F>
         ensures { result ≡ [] }
@@ -160,7 +159,7 @@ impl<W: Work + Drop, F: Fingerprint<W>> Keys<W, F> {
         ensures map { IsKeyMap self.new }
         ensures err { OnErr result (self.new ≡ self.old) }
     {
-        let marks = needed(self.alloc, &self.slots, self.numbers.room(), roots)?;
+        let marks = needed(self.alloc, &self.slots, self.numbers.bound(), roots)?;
         let index = index_of::<W, F>(self.alloc, &self.slots, &self.index, &marks)?;
         self.numbers.keep(&marks)?;
         self.index = index;

@@ -11,13 +11,13 @@ use std::alloc::{AllocError, Global};
 pub(crate) fn needed<W>(
     alloc: Global,
     slots: &[(KeyId, Node<W>)],
-    room: usize,
+    bound: usize,
     roots: &[KeyId],
 ) -> Result<Vec<bool>, AllocError>
     ensures { IfOk result (λ marks. marks.items
-        ≡ all_passed_on (all_marked (replicate room false) roots.now) slots.now) }
+        ≡ all_passed_on (all_marked (replicate bound false) roots.now) slots.now) }
 {
-    let mut marks = vec![in alloc; false; room]?;
+    let mut marks = vec![in alloc; false; bound]?;
     for root in roots {
         mark(&mut marks, *root);
     }

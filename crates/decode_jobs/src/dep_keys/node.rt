@@ -1,17 +1,34 @@
 //! Nodes: a picture's own work, and the keys of the pictures that it is made from.
 
-ghost use Rattle.std.specs.Prelude.{◌≡◌, ◌↔◌, IsTrue};
+ghost use Rattle.std.specs.Prelude.{◌≡◌, ◌↔◌, IsTrue, ℕ, List, ◌++◌};
 ghost use Rattle.std.specs.Bool.{Decides};
+ghost use Rattle.sha2.specs.Hashers.{Holds256};
 
 use crate::dep_keys::key_id::KeyId;
-use crate::dep_keys::work::Work;
+use sha2::Sha256;
 use std::marker::Model;
 
-/// A picture's own work, and at each of its list entries, in their order, the key of the picture
+/// A picture's own content.
+pub trait Content {
+    // The bytes that stand for this content in a fingerprint.
+    ghost bytes: { Self → List ℕ };
+
+    /// Whether this is the same content as `other`.
+    fn is_same(&self, other: &Self) -> bool
+        ensures { IsTrue result ↔ (self.now ≡ other.now) };
+
+    /// Adds the bytes of this content to a hasher. Different content may have the same bytes: then it
+    /// shares a fingerprint, which costs time alone.
+    fn feed(&self, hasher: &mut Sha256)
+        ensures { (message : List ℕ) → Holds256 hasher.old message
+            → Holds256 hasher.new (message ++ bytes self.now) };
+}
+
+/// A picture's own content, and at each of its list entries, in their order, the key of the picture
 /// named or nothing.
 #[derive(Debug, Drop)]
 pub struct Node<W> {
-    work: W,
+    content: W,
     entries: Vec<Option<KeyId>>,
 }
 
@@ -22,22 +39,22 @@ impl<W> Model for Node<W> {
 
     ghost coded = { node_code W.code };
 
-    ghost view = { λ node. record { work = node.work; entries = node.entries.items } };
+    ghost view = { λ node. record { content = node.content; entries = node.entries.items } };
 }
 
 impl<W> Node<W> {
-    /// The node of this work with these entries.
-    pub fn new(work: W, entries: Vec<Option<KeyId>>) -> Node<W>
-        ensures { result ≡ record { work = work; entries = entries.items } }
+    /// The node of this content with these entries.
+    pub fn new(content: W, entries: Vec<Option<KeyId>>) -> Node<W>
+        ensures { result ≡ record { content = content; entries = entries.items } }
     {
-        Node { work, entries }
+        Node { content, entries }
     }
 
-    /// The work.
-    pub fn work(&self) -> &W
-        ensures { result.now ≡ self.now.work }
+    /// The content.
+    pub fn content(&self) -> &W
+        ensures { result.now ≡ self.now.content }
     {
-        &self.work
+        &self.content
     }
 
     /// The entries, in their order.
@@ -48,12 +65,12 @@ impl<W> Node<W> {
     }
 }
 
-impl<W: Work> Node<W> {
-    /// Whether the two have the same work and the same numbers at their entries.
+impl<W: Content> Node<W> {
+    /// Whether the two have the same content and the same numbers at their entries.
     pub fn is_same(&self, other: &Node<W>) -> bool
         ensures { IsTrue result ↔ (self.now ≡ other.now) }
     {
-        self.work.is_same(&other.work) && are_same(&self.entries, &other.entries)
+        self.content.is_same(&other.content) && are_same(&self.entries, &other.entries)
     }
 }
 

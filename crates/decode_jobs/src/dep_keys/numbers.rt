@@ -85,7 +85,7 @@ impl Numbers {
     }
 
     /// A number above each live one.
-    pub(crate) fn room(&self) -> usize
+    pub(crate) fn bound(&self) -> usize
         ensures { (i : ℕ) → i < length self.now → slice_index self.now i < result }
     {
         self.places.len()
@@ -123,7 +123,7 @@ fn place_of(live: &[usize], places: &[usize], number: usize) -> Option<usize>
 fn add_unused(live: &[usize], places: &[usize], unused: &mut Vec<usize>)
     requires placed { ArePlaced live.now places.now }
     requires none { unused.old.items ≡ [] }
-    requires room { length places.now ≤ vec_capacity unused.old }
+    requires bound { length places.now ≤ vec_capacity unused.old }
     ensures { unused.new.items ≡ unused_below live.now (length places.now) }
 {
     let mut number = places.len();
@@ -136,7 +136,7 @@ fn add_unused(live: &[usize], places: &[usize], unused: &mut Vec<usize>)
 /// Adds a number if it isn't live. There is room for it.
 fn add_if_unused(live: &[usize], places: &[usize], number: usize, unused: &mut Vec<usize>)
     requires placed { ArePlaced live.now places.now }
-    requires room { vec_len unused.old < vec_capacity unused.old }
+    requires bound { vec_len unused.old < vec_capacity unused.old }
     ensures items { unused.new.items ++ unused_below live.now number
         ≡ unused.old.items ++ unused_below live.now (suc number) }
     ensures few { vec_len unused.new ≤ vec_len unused.old + 1 }

@@ -10,13 +10,12 @@ use crate::dep_keys::fingerprint::Fingerprint;
 use crate::dep_keys::index::Index;
 use crate::dep_keys::key_id::KeyId;
 use crate::dep_keys::marks::is_marked;
-use crate::dep_keys::node::Node;
+use crate::dep_keys::node::{Content, Node};
 use crate::dep_keys::numbers::Numbers;
-use crate::dep_keys::work::Work;
 use std::alloc::{AllocError, Global};
 
 /// The number of a node, looked for among those of its fingerprint.
-pub(crate) fn find<W: Work>(
+pub(crate) fn find<W: Content>(
     slots: &[(KeyId, Node<W>)],
     index: &Index,
     fingerprint: &[u8; 32],

@@ -6,7 +6,7 @@ ghost use Rattle.decode_pool.specs.Batches.{GivesBackAll, LandsAll, TakesNext, T
 
 use super::DeskState;
 use decode_jobs::Decoded;
-use worker_jobs::Tally;
+use worker_jobs::WorkerQueue;
 
 /// How many jobs a worker takes at most before it ends.
 const MOST_JOBS: u64 = 1 << 63;
@@ -28,60 +28,65 @@ pub(crate) enum Next {
 
 impl<P: Decoded> DeskState<P> {
     /// A worker comes back, and brings all results that it has in hand.
-    pub(crate) fn come_back(&mut self, tally: &mut Tally<P>)
-        ensures landed { LandsAll P.IsDecoded self.old.session tally.old.results.items
-            tally.old.counts tally.old.late.items self.new.session tally.new.counts
-            tally.new.late.items }
-        ensures results { tally.new.results.items ≡ [] }
-        ensures jobs { tally.new.jobs.items ≡ tally.old.jobs.items }
-        ensures busy { 0 < length tally.old.jobs.items + length tally.old.results.items
+    pub(crate) fn come_back(&mut self, queue: &mut WorkerQueue<P>)
+        ensures landed { LandsAll P.IsDecoded self.old.session queue.old.results.items
+            queue.old.counts queue.old.late.items self.new.session queue.new.counts
+            queue.new.late.items }
+        ensures results { queue.new.results.items ≡ [] }
+        ensures jobs { queue.new.jobs.items ≡ queue.old.jobs.items }
+        ensures busy { 0 < length queue.old.jobs.items + length queue.old.results.items
             → self.new.status ≡ record self.old.status { at_work = self.old.status.at_work - 1 } }
-        ensures idle { length tally.old.jobs.items + length tally.old.results.items ≡ 0
+        ensures idle { length queue.old.jobs.items + length queue.old.results.items ≡ 0
             → self.new.status ≡ self.old.status }
     {
-        if tally.jobs() + tally.results() > 0 {
+        if queue.jobs() + queue.results() > 0 {
             self.status.at_work = self.status.at_work.saturating_sub(1);
         }
-        self.land_all(tally);
+        self.land_all(queue);
     }
 
     /// A worker ends: it brings the results that it has in hand, gives back the jobs, and is
     /// counted.
-    pub(crate) fn end_worker(&mut self, tally: &mut Tally<P>)
-        ensures jobs { tally.new.jobs.items ≡ [] }
-        ensures results { tally.new.results.items ≡ [] }
+    pub(crate) fn end_worker(&mut self, queue: &mut WorkerQueue<P>)
+        ensures jobs { queue.new.jobs.items ≡ [] }
+        ensures results { queue.new.results.items ≡ [] }
         ensures ended { self.new.status.ended ≡ min (self.old.status.ended + 1) (2 ^ 64 - 1) }
         ensures rest { self.new.status ≡ record self.old.status {
           ended = self.new.status.ended;
           at_work = self.new.status.at_work;
         } }
     {
-        self.come_back(tally);
-        self.give_back_all(tally);
+        self.come_back(queue);
+        self.give_back_all(queue);
         self.status.ended = self.status.ended.saturating_add(1);
     }
 
     /// A worker that has no job in hand takes its next one for what is wanted first. Where no job
     /// is due for that, it takes of the rest, if that is wanted: one, where others of so many
     /// workers have none, else up to so many.
-    pub(crate) fn take_next(&mut self, tally: &mut Tally<P>, most: usize, workers: usize) -> Next
-        requires none { tally.old.jobs.items ≡ [] }
+    pub(crate) fn take_next(
+        &mut self,
+        queue: &mut WorkerQueue<P>,
+        most: usize,
+        workers: usize,
+    ) -> Next
+        requires none { queue.old.jobs.items ≡ [] }
         requires some { 0 < most }
         ensures taken { TakesNext P.IsOf self.old.session self.old.status.wanted
-            tally.new.jobs.items result self.new.session }
-        ensures results { tally.new.results.items ≡ tally.old.results.items }
-        ensures counts { tally.new.counts ≡ tally.old.counts }
-        ensures late { tally.new.late.items ≡ tally.old.late.items }
-        ensures busy { 0 < length tally.new.jobs.items
+            queue.new.jobs.items result self.new.session }
+        ensures results { queue.new.results.items ≡ queue.old.results.items }
+        ensures counts { queue.new.counts ≡ queue.old.counts }
+        ensures late { queue.new.late.items ≡ queue.old.late.items }
+        ensures busy { 0 < length queue.new.jobs.items
             → self.new.status ≡ record self.old.status {
               at_work = min (self.old.status.at_work + 1) (2 ^ 64 - 1);
             } }
-        ensures idle { length tally.new.jobs.items ≡ 0
+        ensures idle { length queue.new.jobs.items ≡ 0
             → self.new.status ≡ self.old.status }
     {
         let are_busy = self.status.are_others_at_work(workers);
-        let next = self.take_urgent(tally, if are_busy { most } else { 1 });
-        if tally.jobs() > 0 {
+        let next = self.take_urgent(queue, if are_busy { most } else { 1 });
+        if queue.jobs() > 0 {
             self.status.at_work = self.status.at_work.saturating_add(1);
         }
         next
@@ -90,22 +95,22 @@ impl<P: Decoded> DeskState<P> {
     /// A worker that has no job in hand takes one for the first wanted id for which a needed unit
     /// is due, by a step of the session. Where there is none such, it takes up to so many of the
     /// rest, if that is wanted.
-    fn take_urgent(&mut self, tally: &mut Tally<P>, most: usize) -> Next
-        requires none { tally.old.jobs.items ≡ [] }
+    fn take_urgent(&mut self, queue: &mut WorkerQueue<P>, most: usize) -> Next
+        requires none { queue.old.jobs.items ≡ [] }
         requires some { 0 < most }
         ensures taken { TakesNext P.IsOf self.old.session self.old.status.wanted
-            tally.new.jobs.items result self.new.session }
-        ensures results { tally.new.results.items ≡ tally.old.results.items }
-        ensures counts { tally.new.counts ≡ tally.old.counts }
-        ensures late { tally.new.late.items ≡ tally.old.late.items }
+            queue.new.jobs.items result self.new.session }
+        ensures results { queue.new.results.items ≡ queue.old.results.items }
+        ensures counts { queue.new.counts ≡ queue.old.counts }
+        ensures late { queue.new.late.items ≡ queue.old.late.items }
         ensures status { self.new.status ≡ self.old.status }
     {
-        if self.status.closed || tally.count() >= MOST_JOBS {
+        if self.status.closed || queue.count() >= MOST_JOBS {
             return Next::Ends;
         }
-        match self.take_first(tally) {
+        match self.take_first(queue) {
             Ok(true) => Next::Decodes,
-            Ok(false) if self.status.wanted.is_rest_wanted() => self.take_some(tally, most),
+            Ok(false) if self.status.wanted.is_rest_wanted() => self.take_some(queue, most),
             Ok(false) => Next::Sleeps,
             Err(_) => Next::Ends,
         }
@@ -113,23 +118,23 @@ impl<P: Decoded> DeskState<P> {
 
     /// A worker that has no job in hand takes so many, or as many as are due, each by a step of the
     /// session.
-    pub(crate) fn take_some(&mut self, tally: &mut Tally<P>, most: usize) -> Next
-        requires none { tally.old.jobs.items ≡ [] }
+    pub(crate) fn take_some(&mut self, queue: &mut WorkerQueue<P>, most: usize) -> Next
+        requires none { queue.old.jobs.items ≡ [] }
         requires some { 0 < most }
-        ensures taken { TakesSome P.IsOf self.old.session tally.new.jobs.items result self.new.session }
-        ensures results { tally.new.results.items ≡ tally.old.results.items }
-        ensures counts { tally.new.counts ≡ tally.old.counts }
-        ensures late { tally.new.late.items ≡ tally.old.late.items }
+        ensures taken { TakesSome P.IsOf self.old.session queue.new.jobs.items result self.new.session }
+        ensures results { queue.new.results.items ≡ queue.old.results.items }
+        ensures counts { queue.new.counts ≡ queue.old.counts }
+        ensures late { queue.new.late.items ≡ queue.old.late.items }
         ensures status { self.new.status ≡ self.old.status }
     {
         for _at in 0..most {
-            if tally.count() >= MOST_JOBS {
-                return unless_in_hand(tally, Next::Ends);
+            if queue.count() >= MOST_JOBS {
+                return unless_in_hand(queue, Next::Ends);
             }
-            match self.take(tally) {
+            match self.take(queue) {
                 Ok(true) => {}
-                Ok(false) => return unless_in_hand(tally, Next::Sleeps),
-                Err(_) => return unless_in_hand(tally, Next::Ends),
+                Ok(false) => return unless_in_hand(queue, Next::Sleeps),
+                Err(_) => return unless_in_hand(queue, Next::Ends),
             }
         }
         Next::Decodes
@@ -137,41 +142,41 @@ impl<P: Decoded> DeskState<P> {
 
     /// A worker brings all results that it has in hand, in the order in which it took their jobs,
     /// each by a step of the session.
-    pub(crate) fn land_all(&mut self, tally: &mut Tally<P>)
-        ensures landed { LandsAll P.IsDecoded self.old.session tally.old.results.items
-            tally.old.counts tally.old.late.items self.new.session tally.new.counts
-            tally.new.late.items }
-        ensures results { tally.new.results.items ≡ [] }
-        ensures jobs { tally.new.jobs.items ≡ tally.old.jobs.items }
+    pub(crate) fn land_all(&mut self, queue: &mut WorkerQueue<P>)
+        ensures landed { LandsAll P.IsDecoded self.old.session queue.old.results.items
+            queue.old.counts queue.old.late.items self.new.session queue.new.counts
+            queue.new.late.items }
+        ensures results { queue.new.results.items ≡ [] }
+        ensures jobs { queue.new.jobs.items ≡ queue.old.jobs.items }
         ensures status { self.new.status ≡ self.old.status }
     {
-        for _at in 0..tally.results() {
-            let _ = self.land(tally);
+        for _at in 0..queue.results() {
+            let _ = self.land(queue);
         }
     }
 
     /// A worker gives all jobs back that it has in hand, in the order in which it took them, each
     /// by a step of the session.
-    pub(crate) fn give_back_all(&mut self, tally: &mut Tally<P>)
-        ensures given { GivesBackAll self.old.session tally.old.jobs.items tally.old.counts
-            self.new.session tally.new.counts }
-        ensures jobs { tally.new.jobs.items ≡ [] }
-        ensures results { tally.new.results.items ≡ tally.old.results.items }
-        ensures late { tally.new.late.items ≡ tally.old.late.items }
+    pub(crate) fn give_back_all(&mut self, queue: &mut WorkerQueue<P>)
+        ensures given { GivesBackAll self.old.session queue.old.jobs.items queue.old.counts
+            self.new.session queue.new.counts }
+        ensures jobs { queue.new.jobs.items ≡ [] }
+        ensures results { queue.new.results.items ≡ queue.old.results.items }
+        ensures late { queue.new.late.items ≡ queue.old.late.items }
         ensures status { self.new.status ≡ self.old.status }
     {
-        for _at in 0..tally.jobs() {
-            let _ = self.give_back(tally);
+        for _at in 0..queue.jobs() {
+            let _ = self.give_back(queue);
         }
     }
 }
 
 /// What a worker does next that took no more: this, or it decodes what it has in hand.
-fn unless_in_hand<P: Decoded>(tally: &Tally<P>, next: Next) -> Next
-    ensures none { tally.now.jobs.items ≡ [] → result ≡ next }
-    ensures some { tally.now.jobs.items ≢ [] → result ≡ DecodesLast }
+fn unless_in_hand<P: Decoded>(queue: &WorkerQueue<P>, next: Next) -> Next
+    ensures none { queue.now.jobs.items ≡ [] → result ≡ next }
+    ensures some { queue.now.jobs.items ≢ [] → result ≡ DecodesLast }
 {
-    if tally.jobs() == 0 {
+    if queue.jobs() == 0 {
         next
     } else {
         Next::DecodesLast

@@ -28,7 +28,7 @@ impl<P: Decoded> DeskState<P> {
     pub(crate) fn settled(&self, from: usize, workers: usize) -> Result<Settled, usize>
         ensures reached { IsReached self.now.session }
         ensures settled { IsSettledBy P.IsOf self.now.session self.now.status workers result }
-        ensures told { IfOk result (WaitsForOne P.IsOf) }
+        ensures woken { IfOk result (WaitsForOne P.IsOf) }
     {
         let pending = match self.first_pending(from) {
             None if from > 0 => self.first_pending(0),

@@ -5,19 +5,19 @@ mod sweeps;
 ghost use Rattle.std.specs.Prelude.{◌≡◌, ℕ, replicate};
 ghost use Rattle.std.specs.Int.{w32, to_le_bytes};
 
-use decode_jobs::dep_keys::{Fingerprint, KeyId, Keys, Node, Work};
+use decode_jobs::dep_keys::{Content, Fingerprint, KeyId, Keys, Node};
 use sha2::{Digest, Sha256};
 use std::alloc::{AllocError, AllocGlobal};
 use std::process::Abort;
 use std::test::Fail;
 
-/// Work that is a number.
+/// Content that is a number.
 #[derive(Debug, Drop)]
 struct Number {
     number: u32,
 }
 
-impl Work for Number {
+impl Content for Number {
     ghost bytes = { λ work. to_le_bytes w32 work.number };
 
     fn is_same(&self, other: &Number) -> bool {

@@ -26,11 +26,11 @@ type Calls = &'static [(Call, Answer)];
 /// buffer and whether it begins that one's frame.
 type Worked = (u32, u32, u64, usize, bool);
 
-/// Whether the work runs out of memory, calls, and what was worked on after them.
-type Stretch = (bool, Calls, Option<Worked>);
+/// Whether the recorder runs out of memory, calls, and what was worked on after them.
+type Passage = (bool, Calls, Option<Worked>);
 
 /// How many buffers the queues of an example have, and its calls.
-type Example = (usize, usize, &'static [Stretch]);
+type Example = (usize, usize, &'static [Passage]);
 
 /// Requests 0 and 1 are queued, with controls 5 and 6: the first with OUTPUT buffer 0, timestamp
 /// 1000 and the hold flag, the second with OUTPUT buffer 1, the same timestamp and no flag.
@@ -58,7 +58,7 @@ const TWO_FRAMES: Calls = &[
 ];
 
 /// Two slices of a frame hold one buffer.
-const ONE_BUFFER: &[Stretch] = &[
+const ONE_BUFFER: &[Passage] = &[
     (false, ONE_FRAME, None),
     (
         false,
@@ -90,7 +90,7 @@ const ONE_BUFFER: &[Stretch] = &[
 ];
 
 /// Two frames take two buffers.
-const TWO_BUFFERS: &[Stretch] = &[
+const TWO_BUFFERS: &[Passage] = &[
     (false, TWO_FRAMES, None),
     (
         false,
@@ -113,7 +113,7 @@ const TWO_BUFFERS: &[Stretch] = &[
 
 /// A held buffer is released for want of another; dequeued and queued again, it takes the second
 /// frame.
-const RELEASED: &[Stretch] = &[
+const RELEASED: &[Passage] = &[
     (false, TWO_FRAMES, None),
     (
         false,
@@ -139,7 +139,7 @@ const RELEASED: &[Stretch] = &[
 ];
 
 /// A request needs a buffer and controls.
-const INCOMPLETE: &[Stretch] = &[(
+const INCOMPLETE: &[Passage] = &[(
     false,
     &[
         (Alloc, Given(0)),
@@ -157,7 +157,7 @@ const INCOMPLETE: &[Stretch] = &[(
 )];
 
 /// Work that runs out of memory leaves the queues as they were.
-const WANTING: &[Stretch] = &[
+const WANTING: &[Passage] = &[
     (false, TWO_FRAMES, None),
     (
         false,
@@ -187,7 +187,7 @@ const WANTING: &[Stretch] = &[
 ];
 
 /// There are as many buffers as were asked for.
-const MANY_BUFFERS: &[Stretch] = &[(
+const MANY_BUFFERS: &[Passage] = &[(
     false,
     &[
         (Alloc, Given(0)),
@@ -204,7 +204,7 @@ const MANY_BUFFERS: &[Stretch] = &[(
 
 /// No request comes before no buffer, that before a request in use, and that before a buffer in
 /// use.
-const FIRST_REFUSALS: &[Stretch] = &[
+const FIRST_REFUSALS: &[Passage] = &[
     (false, ONE_FRAME, None),
     (
         false,
@@ -228,7 +228,7 @@ const FIRST_REFUSALS: &[Stretch] = &[
 ];
 
 /// A buffer goes back with its request.
-const FREED: &[Stretch] = &[(
+const FREED: &[Passage] = &[(
     false,
     &[
         (Alloc, Given(0)),
@@ -268,30 +268,30 @@ fn slice_of(worked: Worked) -> Slice {
 }
 
 /// This is what was worked on.
-fn has_worked(work: &Recorder, worked: Option<Worked>) -> bool {
+fn has_worked(recorder: &Recorder, worked: Option<Worked>) -> bool {
     match worked {
-        Some(worked) => work.slices == worked.0 && work.last == Some(slice_of(worked)),
-        None => work.slices == 0,
+        Some(worked) => recorder.slices == worked.0 && recorder.last == Some(slice_of(worked)),
+        None => recorder.slices == 0,
     }
 }
 
-/// The queues answer the calls of a stretch so.
-fn holds(queues: &mut Queues<u32>, work: &mut Recorder, stretch: &Stretch) -> bool {
-    work.is_full = stretch.0;
-    are_answered(queues, work, stretch.1) && has_worked(work, stretch.2)
+/// The queues answer the calls of a passage so.
+fn holds(queues: &mut Queues<u32>, recorder: &mut Recorder, passage: &Passage) -> bool {
+    recorder.is_full = passage.0;
+    are_answered(queues, recorder, passage.1) && has_worked(recorder, passage.2)
 }
 
 /// New queues answer all calls of an example so.
 fn example_holds(alloc: Global, example: &Example) -> Result<bool, AllocError> {
-    let (outputs, captures, stretches) = *example;
+    let (outputs, captures, passages) = *example;
     let most = MOST_BUFFERS;
     if outputs == 0 || captures == 0 || outputs > most || captures > most {
         return Ok(false);
     }
     let mut queues = Queues::new(alloc, outputs, captures)?;
-    let mut work = Recorder::new();
-    for stretch in stretches {
-        if !holds(&mut queues, &mut work, stretch) {
+    let mut recorder = Recorder::new();
+    for passage in passages {
+        if !holds(&mut queues, &mut recorder, passage) {
             return Ok(false);
         }
     }
@@ -361,8 +361,8 @@ const RUNS: Calls = &[
 #[test]
 fn refused_growth_opens_no_queues(rt: HostRuntime) {
     if let Ok(mut queues) = Queues::new(rt.alloc(), 2, 2) {
-        let mut work = Recorder::new();
-        assert!(rt; are_answered(&mut queues, &mut work, ONE_FRAME));
-        assert!(rt; are_answered(&mut queues, &mut work, RUNS));
+        let mut recorder = Recorder::new();
+        assert!(rt; are_answered(&mut queues, &mut recorder, ONE_FRAME));
+        assert!(rt; are_answered(&mut queues, &mut recorder, RUNS));
     }
 }

@@ -4,17 +4,17 @@ ghost use Rattle.std.specs.Prelude.{◌≡◌, ◌++◌, [], ◌∷◌, Contains
 ghost use Rattle.std.specs.Bool.{Decides};
 ghost use Rattle.std.specs.List.{cons_option, flat_map};
 ghost use Rattle.draw_run.specs.Lists.{AreEachOnce, is_long_term, named_by, named_of, reference_at};
-ghost use Rattle.stream_svg.specs.declared.unit.Reference.{Reference as ReferenceValue};
+ghost use Rattle.stream_svg.specs.declared.unit.DrawnReference.{DrawnReference as ReferenceValue};
 
 use h264_controls::Request;
 use std::alloc::{AllocError, Global};
-use stream_svg::{RefList, Reference};
+use stream_svg::{DrawnReference, RefList};
 
 /// The frames that the lists of slices name, each once for each list.
 pub(crate) fn references_of(
     alloc: Global,
     requests: &[Request],
-) -> Result<Vec<Reference>, AllocError>
+) -> Result<Vec<DrawnReference>, AllocError>
     ensures { IfOk result (λ references.
         AreEachOnce (flat_map named_of requests.now) references.items) }
 {
@@ -26,7 +26,7 @@ pub(crate) fn references_of(
 }
 
 /// Adds those that the lists of a slice name.
-fn add_slice(references: &mut Vec<Reference>, request: &Request) -> Result<(), AllocError>
+fn add_slice(references: &mut Vec<DrawnReference>, request: &Request) -> Result<(), AllocError>
     ensures { OnOk result ((before : List ReferenceValue)
         → AreEachOnce before references.old.items
         → AreEachOnce (before ++ named_of request.now) references.new.items) }
@@ -49,7 +49,7 @@ fn add_slice(references: &mut Vec<Reference>, request: &Request) -> Result<(), A
 
 /// Adds those that a list of a slice names.
 fn add_list(
-    references: &mut Vec<Reference>,
+    references: &mut Vec<DrawnReference>,
     request: &Request,
     list: RefList,
     entries: &[Option<u8>],
@@ -66,7 +66,7 @@ fn add_list(
 
 /// Adds the one that an entry names, if it names one.
 fn add_entry(
-    references: &mut Vec<Reference>,
+    references: &mut Vec<DrawnReference>,
     request: &Request,
     list: RefList,
     entry: Option<u8>,
@@ -83,7 +83,7 @@ fn add_entry(
 }
 
 /// Adds one, where it isn't there.
-fn add(references: &mut Vec<Reference>, reference: Reference) -> Result<(), AllocError>
+fn add(references: &mut Vec<DrawnReference>, reference: DrawnReference) -> Result<(), AllocError>
     ensures { OnOk result ((before : List ReferenceValue)
         → AreEachOnce before references.old.items
         → AreEachOnce (before ++ reference ∷ []) references.new.items) }
@@ -96,19 +96,19 @@ fn add(references: &mut Vec<Reference>, reference: Reference) -> Result<(), Allo
 }
 
 /// Whether it is among these.
-fn is_among(references: &[Reference], reference: &Reference) -> bool
+fn is_among(references: &[DrawnReference], reference: &DrawnReference) -> bool
     ensures { Decides result (Contains references.now reference.now) }
 {
     references.contains(reference)
 }
 
 /// The one that an entry of a list names.
-fn reference_at(request: &Request, list: RefList, entry: Option<u8>) -> Option<Reference>
+fn reference_at(request: &Request, list: RefList, entry: Option<u8>) -> Option<DrawnReference>
     ensures { result ≡ reference_at request.now list entry }
 {
     let index = entry?;
     let frame = request.reference(index)?;
-    Some(Reference {
+    Some(DrawnReference {
         list,
         frame,
         long_term: is_long_term(request, index),

@@ -9,7 +9,7 @@ use crate::unit_drawing::lists::references_of;
 use crate::unit_drawing::types::types_of;
 use h264_types::pictures::AuId;
 use std::alloc::{AllocError, Global};
-use stream_svg::{DrawnUnit, EditMark, Kind, Picture, Reference};
+use stream_svg::{DrawnPicture, DrawnReference, DrawnUnit, EditMark, UnitKind};
 use unit_outcomes::{Outcome, Plan};
 
 /// What is drawn of a unit with this position in output order: whether it is in doubt, and what edits
@@ -34,21 +34,21 @@ pub fn drawn_unit(
 }
 
 /// What a unit is drawn as.
-fn kind_of(outcome: &Outcome, position: Option<usize>) -> Kind
+fn kind_of(outcome: &Outcome, position: Option<usize>) -> UnitKind
     ensures { result ≡ kind_of outcome.now position }
 {
     match outcome {
-        Outcome::Plan(plan) => Kind::Picture(picture_of(plan, position)),
-        Outcome::Fault(fault) => Kind::Fault(*fault),
-        Outcome::Empty => Kind::Empty,
+        Outcome::Plan(plan) => UnitKind::Picture(picture_of(plan, position)),
+        Outcome::Fault(fault) => UnitKind::Fault(*fault),
+        Outcome::Empty => UnitKind::Empty,
     }
 }
 
 /// What is drawn of a valid unit.
-fn picture_of(plan: &Plan, position: Option<usize>) -> Picture
+fn picture_of(plan: &Plan, position: Option<usize>) -> DrawnPicture
     ensures { result ≡ picture_of plan.now position }
 {
-    Picture {
+    DrawnPicture {
         types: types_of(plan.requests.as_slice()),
         position: position.unwrap_or(0),
         begins_period: plan.begins_period,
@@ -56,7 +56,7 @@ fn picture_of(plan: &Plan, position: Option<usize>) -> Picture
 }
 
 /// The frames that the lists of a unit name, each once for each list.
-fn named_in(alloc: Global, outcome: &Outcome) -> Result<Vec<Reference>, AllocError>
+fn named_in(alloc: Global, outcome: &Outcome) -> Result<Vec<DrawnReference>, AllocError>
     ensures { IfOk result (λ references. AreEachOnce (named_in outcome.now) references.items) }
 {
     match outcome {

@@ -18,7 +18,7 @@ struct Group {
 /// The cached keys: those that were put last are first.
 #[derive(Drop)]
 pub(super) struct Cached {
-    room: usize,
+    capacity: usize,
     groups: Vec<Group>,
     /// Whether some order of the keys agrees with all that was shown.
     pub(super) is_possible: bool,
@@ -28,9 +28,9 @@ pub(super) struct Cached {
 
 impl Cached {
     /// A cache with room for so many keys.
-    pub(super) fn new(alloc: Global, room: usize) -> Cached {
+    pub(super) fn new(alloc: Global, capacity: usize) -> Cached {
         Cached {
-            room,
+            capacity,
             groups: Vec::new(alloc),
             is_possible: true,
             restored: 0,
@@ -88,9 +88,9 @@ impl Cached {
     pub(super) fn put(&mut self, alloc: Global, gone: Vec<Tree>) -> Result<(), AllocError> {
         let groups = mem::replace(&mut self.groups, Vec::new(alloc));
         let kept = gone.len();
-        let mut room = self.add(Group { trees: gone, kept }, self.room)?;
+        let mut capacity = self.add(Group { trees: gone, kept }, self.capacity)?;
         for group in groups {
-            room = self.add(group, room)?;
+            capacity = self.add(group, capacity)?;
         }
         Ok(())
     }
@@ -101,13 +101,13 @@ impl Cached {
     }
 
     /// Keeps as much of a group as there is room for; the room that is left.
-    fn add(&mut self, group: Group, room: usize) -> Result<usize, AllocError> {
+    fn add(&mut self, group: Group, capacity: usize) -> Result<usize, AllocError> {
         let Group { trees, kept } = group;
-        let kept = kept.min(room);
+        let kept = kept.min(capacity);
         if kept > 0 {
             self.groups.push(Group { trees, kept })?;
         }
-        Ok(room.saturating_sub(kept))
+        Ok(capacity.saturating_sub(kept))
     }
 }
 

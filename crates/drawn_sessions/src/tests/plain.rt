@@ -40,18 +40,18 @@ pub(super) struct Plain {
 
 impl Plain {
     /// An empty stream, with room for so many pictures in the cache.
-    pub(super) fn new(alloc: Global, room: u16) -> Plain {
+    pub(super) fn new(alloc: Global, capacity: u16) -> Plain {
         Plain {
             units: Vec::new(alloc),
             outcomes: Vec::new(alloc),
             positions: Vec::new(alloc),
             seen: Seen {
-                works: Vec::new(alloc),
+                bodies: Vec::new(alloc),
                 trees: Vec::new(alloc),
             },
             keys: Vec::new(alloc),
             held: Vec::new(alloc),
-            cached: Cached::new(alloc, usize::from(room)),
+            cached: Cached::new(alloc, usize::from(capacity)),
             given: Vec::new(alloc),
             out: Vec::new(alloc),
             jumped: 0,

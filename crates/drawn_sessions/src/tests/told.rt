@@ -2,7 +2,7 @@
 
 use super::pool::text_at;
 use h264_types::pictures::AuId;
-use stand_in_session::{Changed, Dropping, Edit, Landing, Place, Returning};
+use stand_in_session::{Changed, Dropping, Edit, InsertionPoint, Landing, Returning};
 use std::alloc::{AllocError, Global};
 
 /// An edit, whose texts are places of the pool.
@@ -18,9 +18,9 @@ impl Change {
     /// The edit.
     pub(super) fn edit(self, alloc: Global) -> Result<Edit, AllocError> {
         Ok(match self {
-            Change::First(text) => Edit::Insert(Place::First, text_at(alloc, text)?),
+            Change::First(text) => Edit::Insert(InsertionPoint::First, text_at(alloc, text)?),
             Change::After(id, text) => {
-                Edit::Insert(Place::After(AuId::new(id)), text_at(alloc, text)?)
+                Edit::Insert(InsertionPoint::After(AuId::new(id)), text_at(alloc, text)?)
             }
             Change::Delete(id) => Edit::Delete(AuId::new(id)),
             Change::Replace(id, text) => Edit::Replace(AuId::new(id), text_at(alloc, text)?),

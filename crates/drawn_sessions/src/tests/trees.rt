@@ -1,7 +1,7 @@
 //! Keys as whole trees, each written out once.
 
 use access_unit::Unit;
-use h264_controls::{Request, Work};
+use h264_controls::{Request, RequestBody};
 use h264_types::base::Shared;
 use h264_types::pictures::AuId;
 use std::alloc::{AllocError, Global};
@@ -20,12 +20,12 @@ pub(super) struct Key {
     pub(super) tree: Tree,
 }
 
-/// The works and the trees that were seen, each once. A work's number is its place. A tree is
-/// written out whole: for each slice the number of its work, and for each entry of its lists a 0,
+/// The bodies and the trees that were seen, each once. A body's number is its place. A tree is
+/// written out whole: for each slice the number of its body, and for each entry of its lists a 0,
 /// or a 1 and the whole tree of the frame that is named.
 #[derive(Drop)]
 pub(super) struct Seen {
-    pub(super) works: Vec<Shared<Work>>,
+    pub(super) bodies: Vec<Shared<RequestBody>>,
     pub(super) trees: Vec<Vec<u8>>,
 }
 
@@ -56,7 +56,7 @@ impl Seen {
     ) -> Result<Tree, AllocError> {
         let mut text = Vec::new(alloc);
         for request in requests {
-            text.extend_from_slice(&self.number_of(&request.work)?.to_le_bytes())?;
+            text.extend_from_slice(&self.number_of(&request.body)?.to_le_bytes())?;
             self.write_entries(&mut text, before, &named(alloc, request)?)?;
         }
         self.tree_with(text)
@@ -101,15 +101,15 @@ impl Seen {
         Ok(Tree { place })
     }
 
-    /// The number of a work.
-    fn number_of(&mut self, work: &Shared<Work>) -> Result<u64, AllocError> {
-        for (number, other) in self.works.iter().enumerate() {
-            if other.is_same(work) {
+    /// The number of a body.
+    fn number_of(&mut self, body: &Shared<RequestBody>) -> Result<u64, AllocError> {
+        for (number, other) in self.bodies.iter().enumerate() {
+            if other.is_same(body) {
                 return Ok(number as u64);
             }
         }
-        self.works.push(work.clone()?)?;
-        Ok((self.works.len() as u64).saturating_sub(1))
+        self.bodies.push(body.clone()?)?;
+        Ok((self.bodies.len() as u64).saturating_sub(1))
     }
 }
 

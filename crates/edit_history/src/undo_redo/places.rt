@@ -5,7 +5,7 @@ ghost use Rattle.picture_keys.specs.Units.{AreDifferent};
 ghost use Rattle.stream_edits.specs.Streams.{place_among, start_among};
 
 use h264_types::pictures::AuId;
-use stream_edits::Place;
+use stream_edits::InsertionPoint;
 
 /// The place of the id, if it is one of these, which differ. The last one is found at once.
 pub(crate) fn place_of(ids: &[AuId], id: AuId) -> Option<usize>
@@ -28,12 +28,12 @@ fn search(ids: &[AuId], id: AuId) -> Option<usize>
 }
 
 /// The place at which a unit is inserted, among units of these ids, which differ.
-pub(crate) fn start_of(ids: &[AuId], place: Place) -> Option<usize>
+pub(crate) fn start_of(ids: &[AuId], place: InsertionPoint) -> Option<usize>
     ensures value { AreDifferent ids.now → result ≡ start_among ids.now place }
     ensures inside { IfSome result (λ at. at ≤ length ids.now) }
 {
     match place {
-        Place::First => Some(0),
-        Place::After(id) => Some(place_of(ids, id)? + 1),
+        InsertionPoint::First => Some(0),
+        InsertionPoint::After(id) => Some(place_of(ids, id)? + 1),
     }
 }

@@ -4,19 +4,19 @@ ghost use Rattle.std.specs.Prelude.{◌≡◌, ℕ, ◌+◌, ◌-◌, ◌<◌, �
 ghost use Rattle.std.specs.Vec.{vec_capacity};
 ghost use Rattle.picture_keys.specs.Units.{AreDifferent};
 ghost use Rattle.edit_history.specs.declared.refusals.NotUndone.TheVariants.{Unfit};
-ghost use Rattle.edit_history.specs.Histories.{HasRoom as HasStepRoom, IsHistory};
+ghost use Rattle.edit_history.specs.Histories.{HasCapacity as HasStepCapacity, IsHistory};
 ghost use Rattle.edit_history.specs.Refusals.{IsNotUndone};
 ghost use Rattle.edit_history.specs.Texts.{Texts};
 ghost use Rattle.stream_edits.specs.declared.edits.Edit.{Edit as EditValue};
 ghost use Rattle.stream_edits.specs.Edits.{Makes, Register, no_units};
 ghost use Rattle.stream_edits.specs.Groups.{MakesAll};
 ghost use Rattle.stream_edits.specs.Snapshots.{IsOf};
-ghost use Rattle.edit_history.specs.Following.{AreRefusedOf, Follows, FollowsAll, HasRoom, IsRefusedOf};
-ghost use Rattle.edit_history.specs.Kept.{IsKept};
+ghost use Rattle.edit_history.specs.Following.{AreRefusedOf, Follows, FollowsAll, HasCapacity, IsRefusedOf};
+ghost use Rattle.edit_history.specs.KeptTexts.{IsKept};
 ghost use Rattle.edit_history.specs.Snapshots.{AreOf, IsTextOf, text_under, texts_in};
 ghost use Rattle.edit_history.specs.States.{IsAsBefore, IsUnderWay, IsUndoRedo, TakesTo};
 
-use crate::undo_redo::prepared::{PreparedEdit, PreparedGroup, Step};
+use crate::undo_redo::prepared::{OpenStep, PreparedEdit, PreparedGroup};
 use crate::undo_redo::unit_texts::UnitTexts;
 use crate::{History, NotUndone, StepGroup};
 use bytes::Bytes;
@@ -120,18 +120,18 @@ impl UndoRedo {
     }
 
     /// Begins a step of so many edits at most, for which it makes room.
-    pub fn begin(&mut self, alloc: Global, edits: usize) -> Result<Step, AllocError>
+    pub fn begin(&mut self, alloc: Global, edits: usize) -> Result<OpenStep, AllocError>
         ensures same { IsAsBefore self.old self.new }
         ensures empty { IfOk result (λ step. step.changes.items ≡ []) }
         ensures edits { IfOk result (λ step. edits ≤ vec_capacity step.changes) }
-        ensures room { OnOk result (HasStepRoom self.new.history) }
+        ensures capacity { OnOk result (HasStepCapacity self.new.history) }
         ensures begun { IfOk result (λ step. (states : List Texts) (register : Register)
             → IsUndoRedo self.old states register
             → IsUnderWay self.new step states self.old.units.texts.items register) }
     {
         let changes = Vec::with_capacity(alloc, edits)?;
         self.history.reserve()?;
-        Ok(Step { changes })
+        Ok(OpenStep { changes })
     }
 
     /// What the edit changes, to be taken in once it is accepted. Nothing where the stream refuses
@@ -144,7 +144,7 @@ impl UndoRedo {
         ensures same { IsAsBefore self.old self.new }
         ensures follows { IfOk result (λ prepared.
             IfSome prepared (Follows self.new.units edit.now)) }
-        ensures room { IfOk result (λ prepared. IfSome prepared (HasRoom self.new.units)) }
+        ensures capacity { IfOk result (λ prepared. IfSome prepared (HasCapacity self.new.units)) }
         ensures history { self.new.history ≡ self.old.history }
         ensures none { IfOk result (λ prepared. prepared ≡ None
             → IsRefusedOf self.new.units edit.now) }
@@ -153,8 +153,8 @@ impl UndoRedo {
     }
 
     /// Takes in that the edit was accepted for which this was prepared. It takes no memory.
-    pub fn made(&mut self, step: &mut Step, prepared: PreparedEdit)
-        requires room { HasRoom self.old.units prepared }
+    pub fn made(&mut self, step: &mut OpenStep, prepared: PreparedEdit)
+        requires capacity { HasCapacity self.old.units prepared }
         requires edits { vec_len step.old.changes < vec_capacity step.old.changes }
         ensures follows { (edit : EditValue) (states : List Texts) (before : Texts)
             (old : Register) (id : ℕ) (new : Register) → Follows self.old.units edit prepared
@@ -169,8 +169,8 @@ impl UndoRedo {
 
     /// Ends a step, which can be undone then, unless no edit of it was made. What could be redone is
     /// forgotten. It takes no memory.
-    pub fn end(&mut self, step: Step)
-        requires room { HasStepRoom self.old.history }
+    pub fn end(&mut self, step: OpenStep)
+        requires capacity { HasStepCapacity self.old.history }
         ensures ends { 0 < length step.changes.items → (states : List Texts) (before : Texts)
             (register : Register) → IsUnderWay self.old step states before register
             → IsUndoRedo self.new
@@ -180,7 +180,7 @@ impl UndoRedo {
             → self.new.history.done ≡ length self.new.history.steps.items }
         ensures nothing { step.changes.items ≡ [] → self.new ≡ self.old }
     {
-        let Step { changes } = step;
+        let OpenStep { changes } = step;
         if !changes.is_empty() {
             self.history.changed(changes);
         }
@@ -196,7 +196,7 @@ impl UndoRedo {
         ensures same { IsAsBefore self.old self.new }
         ensures follows { IfOk result (λ prepared.
             IfSome prepared (FollowsAll self.new.units edits.now)) }
-        ensures room { OnOk result (HasStepRoom self.new.history) }
+        ensures capacity { OnOk result (HasStepCapacity self.new.history) }
         ensures none { IfOk result (λ prepared. prepared ≡ None
             → AreRefusedOf self.new.units edits.now) }
     {
@@ -211,7 +211,7 @@ impl UndoRedo {
     /// Takes in that the edits were accepted for which this was prepared. It takes no memory. What
     /// could be redone is forgotten.
     pub fn grouped(&mut self, prepared: PreparedGroup)
-        requires room { HasStepRoom self.old.history }
+        requires capacity { HasStepCapacity self.old.history }
         ensures follows { (edits : List EditValue) (states : List Texts) (old : Register)
             (ids : List ℕ) (new : Register) → FollowsAll self.old.units edits prepared
             → IsUndoRedo self.old states old → MakesAll old edits ids new

@@ -8,19 +8,19 @@ ghost use Rattle.stream_edits.specs.declared.edits.Edit.TheVariants.{Insert, Del
 ghost use Rattle.stream_edits.specs.Edits.{Register};
 ghost use Rattle.stream_edits.specs.Groups.{MakesAll};
 ghost use Rattle.stream_edits.specs.Snapshots.{IsOf};
-ghost use Rattle.edit_history.specs.Following.{AreRefusedOf, Follows, HasRoom, HasSpace, IsLed, IsRefusedOf, ids_after, texts_after};
-ghost use Rattle.edit_history.specs.Kept.{AreSame, IsKept};
+ghost use Rattle.edit_history.specs.Following.{AreRefusedOf, Follows, HasCapacity, HasSpace, IsLed, IsRefusedOf, ids_after, texts_after};
+ghost use Rattle.edit_history.specs.KeptTexts.{AreSame, IsKept};
 ghost use Rattle.edit_history.specs.Snapshots.{AreOf, text_under};
 
 use crate::undo_redo::places::{place_of, start_of};
 use crate::undo_redo::prepared::PreparedEdit;
-use crate::{Change, StepGroup};
+use crate::{StepGroup, UnitChange};
 use bytes::Bytes;
 use h264_types::base::replace_range;
 use h264_types::pictures::AuId;
 use std::alloc::{AllocError, Global};
 use stream_edits::snapshots::Snapshot;
-use stream_edits::{Edit, Place};
+use stream_edits::{Edit, InsertionPoint};
 
 /// The texts of a stream's units under their ids, in decoding order, and how many ids were given.
 #[derive(Debug)]
@@ -117,7 +117,7 @@ impl UnitTexts {
     ) -> Result<Option<PreparedEdit>, AllocError>
         ensures same { AreSame self.old self.new }
         ensures follows { IfOk result (λ prepared. IfSome prepared (Follows self.new edit.now)) }
-        ensures room { IfOk result (λ prepared. IfSome prepared (HasRoom self.new)) }
+        ensures capacity { IfOk result (λ prepared. IfSome prepared (HasCapacity self.new)) }
         ensures none { IfOk result (λ prepared. prepared ≡ None
             → IsRefusedOf self.new edit.now) }
     {
@@ -134,13 +134,13 @@ impl UnitTexts {
     fn insertion(
         &self,
         alloc: Global,
-        place: Place,
+        place: InsertionPoint,
         text: &Bytes,
     ) -> Result<Option<PreparedEdit>, AllocError>
-        requires room { HasSpace self.now }
+        requires capacity { HasSpace self.now }
         ensures follows { IfOk result (λ prepared.
             IfSome prepared (Follows self.now (Insert place text.now))) }
-        ensures room { IfOk result (λ prepared. IfSome prepared (HasRoom self.now)) }
+        ensures capacity { IfOk result (λ prepared. IfSome prepared (HasCapacity self.now)) }
         ensures none { IfOk result (λ prepared. prepared ≡ None
             → IsRefusedOf self.now (Insert place text.now)) }
     {
@@ -159,16 +159,16 @@ impl UnitTexts {
             ids: vec![in alloc; AuId::new(number)]?,
             texts: vec![in alloc; text.clone()?]?,
             ids_given: number,
-            change: Change::Inserted(at, text.clone()?),
+            change: UnitChange::Inserted(at, text.clone()?),
         }))
     }
 
     /// What a deletion changes.
     fn deletion(&self, alloc: Global, id: AuId) -> Result<Option<PreparedEdit>, AllocError>
-        requires room { HasSpace self.now }
+        requires capacity { HasSpace self.now }
         ensures follows { IfOk result (λ prepared.
             IfSome prepared (Follows self.now (Delete id))) }
-        ensures room { IfOk result (λ prepared. IfSome prepared (HasRoom self.now)) }
+        ensures capacity { IfOk result (λ prepared. IfSome prepared (HasCapacity self.now)) }
         ensures none { IfOk result (λ prepared. prepared ≡ None
             → IsRefusedOf self.now (Delete id)) }
     {
@@ -184,7 +184,7 @@ impl UnitTexts {
             ids: Vec::new(alloc),
             texts: Vec::new(alloc),
             ids_given: self.ids_given,
-            change: Change::Deleted(at, former.clone()?),
+            change: UnitChange::Deleted(at, former.clone()?),
         }))
     }
 
@@ -195,10 +195,10 @@ impl UnitTexts {
         id: AuId,
         text: &Bytes,
     ) -> Result<Option<PreparedEdit>, AllocError>
-        requires room { HasSpace self.now }
+        requires capacity { HasSpace self.now }
         ensures follows { IfOk result (λ prepared.
             IfSome prepared (Follows self.now (Replace id text.now))) }
-        ensures room { IfOk result (λ prepared. IfSome prepared (HasRoom self.now)) }
+        ensures capacity { IfOk result (λ prepared. IfSome prepared (HasCapacity self.now)) }
         ensures none { IfOk result (λ prepared. prepared ≡ None
             → IsRefusedOf self.now (Replace id text.now)) }
     {
@@ -214,14 +214,14 @@ impl UnitTexts {
             ids: vec![in alloc; id]?,
             texts: vec![in alloc; text.clone()?]?,
             ids_given: self.ids_given,
-            change: Change::Replaced(at, former.clone()?, text.clone()?),
+            change: UnitChange::Replaced(at, former.clone()?, text.clone()?),
         }))
     }
 
     /// Takes in an edit that was prepared, for which there is room, and answers what it changed. It
     /// takes no memory.
-    pub(crate) fn make(&mut self, prepared: PreparedEdit) -> Change
-        requires { HasRoom self.old prepared }
+    pub(crate) fn make(&mut self, prepared: PreparedEdit) -> UnitChange
+        requires { HasCapacity self.old prepared }
         ensures ids { self.new.ids.items ≡ ids_after self.old prepared }
         ensures texts { self.new.texts.items ≡ texts_after self.old prepared }
         ensures given { self.new.ids_given ≡ prepared.ids_given }
@@ -247,7 +247,7 @@ impl UnitTexts {
         &mut self,
         alloc: Global,
         edits: &[Edit],
-    ) -> Result<Option<Vec<Change>>, AllocError>
+    ) -> Result<Option<Vec<UnitChange>>, AllocError>
         ensures led { IfOk result (λ changes. IfSome changes (λ changes.
             (old : Register) (ids : List ℕ) (new : Register) → IsKept self.old old
             → MakesAll old edits.now ids new
@@ -295,7 +295,7 @@ impl UnitTexts {
 }
 
 /// Makes the changes of the texts, one after the other.
-fn change_all(texts: &mut Vec<Bytes>, changes: &[Change]) -> Result<(), AllocError>
+fn change_all(texts: &mut Vec<Bytes>, changes: &[UnitChange]) -> Result<(), AllocError>
     ensures { OnOk result ((to : Texts) → ChangesAll texts.old.items changes.now to
         → texts.new.items ≡ to) }
 {
@@ -306,22 +306,22 @@ fn change_all(texts: &mut Vec<Bytes>, changes: &[Change]) -> Result<(), AllocErr
 }
 
 /// Makes a change of the texts, if its place is there.
-fn change_one(texts: &mut Vec<Bytes>, change: &Change) -> Result<(), AllocError>
+fn change_one(texts: &mut Vec<Bytes>, change: &UnitChange) -> Result<(), AllocError>
     ensures { OnOk result ((to : Texts) → Changes texts.old.items change.now to
         → texts.new.items ≡ to) }
 {
     match change {
-        Change::Inserted(at, text) => {
+        UnitChange::Inserted(at, text) => {
             if *at <= texts.len() {
                 texts.insert(*at, text.clone()?)?;
             }
         }
-        Change::Deleted(at, _) => {
+        UnitChange::Deleted(at, _) => {
             if *at < texts.len() {
                 let _ = texts.remove(*at);
             }
         }
-        Change::Replaced(at, _, text) => {
+        UnitChange::Replaced(at, _, text) => {
             if *at < texts.len() {
                 texts[*at] = text.clone()?;
             }

@@ -197,7 +197,7 @@ fn tells_what_is_in_doubt(rt: HostRuntime) -> Result<(), Fail> {
 }
 
 #[test]
-fn tells_stretches_as_the_whole(rt: HostRuntime) -> Result<(), Fail> {
+fn tells_ranges_as_the_whole(rt: HostRuntime) -> Result<(), Fail> {
     for (row, (texts, expected)) in ROWS.iter().enumerate() {
         let stream = stream_of(&rt, texts)?;
         for from in 0..expected.len() {

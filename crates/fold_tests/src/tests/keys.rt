@@ -5,7 +5,7 @@ ghost use Rattle.std.specs.Prelude.{replicate};
 use access_unit::Unit;
 use decode_jobs::dep_keys::{Fingerprint, KeyId, Keys, Node, Sha256Fingerprint};
 use h264_types::pictures::AuId;
-use picture_keys::{KeyNumbers, SlicesDigest, Works, node_of};
+use picture_keys::{KeyNumbers, RequestBodies, SlicesDigest, node_of};
 use request_core::scratch;
 use std::alloc::{AllocError, AllocGlobal};
 use std::process::Abort;
@@ -75,10 +75,10 @@ const ROWS: [Row; 10] = [
 #[derive(Debug, Drop)]
 struct Zeros;
 
-impl Fingerprint<Works> for Zeros {
+impl Fingerprint<RequestBodies> for Zeros {
     ghost digest = { λ node. replicate 32 0 };
 
-    fn of(&mut self, _node: &Node<Works>) -> Result<[u8; 32], AllocError> {
+    fn of(&mut self, _node: &Node<RequestBodies>) -> Result<[u8; 32], AllocError> {
         Ok([0; 32])
     }
 }
@@ -93,9 +93,9 @@ fn units_of(rt: &(impl Abort + AllocGlobal), row: Row) -> Result<Vec<(AuId, Unit
 }
 
 /// The number of the key of a unit, which is known from then on.
-fn key_of<F: Fingerprint<Works>>(
+fn key_of<F: Fingerprint<RequestBodies>>(
     rt: &(impl Abort + AllocGlobal),
-    keys: &mut Keys<Works, F>,
+    keys: &mut Keys<RequestBodies, F>,
     numbers: &mut KeyNumbers,
     id: AuId,
     outcome: &Outcome,
@@ -134,9 +134,9 @@ impl Classes {
 }
 
 /// Whether the keys of a row's units are those of their classes.
-fn row_fits<F: Fingerprint<Works>>(
+fn row_fits<F: Fingerprint<RequestBodies>>(
     rt: &(impl Abort + AllocGlobal),
-    keys: &mut Keys<Works, F>,
+    keys: &mut Keys<RequestBodies, F>,
     classes: &mut Classes,
     row: Row,
 ) -> Result<bool, AllocError> {
@@ -157,7 +157,7 @@ fn row_fits<F: Fingerprint<Works>>(
 }
 
 /// Whether all rows have the keys of their classes.
-fn rows_fit<F: Fingerprint<Works> + Drop>(
+fn rows_fit<F: Fingerprint<RequestBodies> + Drop>(
     rt: &(impl Abort + AllocGlobal),
     fingerprint: F,
 ) -> Result<bool, AllocError> {

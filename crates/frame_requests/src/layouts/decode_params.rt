@@ -4,7 +4,7 @@ ghost use Rattle.std.specs.Prelude.{◌≡◌};
 ghost use Rattle.frame_requests.specs.DecodeParamsLayout.{decode_params_layout};
 ghost use Rattle.frame_requests.specs.DpbLayout.{dpb_layout};
 
-use crate::layouts::dpb_entry::{DpbEntry, NO_ENTRY};
+use crate::layouts::dpb_entry::{DpbEntryLayout, NO_ENTRY};
 use crate::layouts::flag_names::FlagNames;
 use h264_controls::{References, V4l2CtrlH264DecodeParams, V4l2H264DpbEntry};
 use h264_types::pictures::AuId;
@@ -14,8 +14,8 @@ use std::mem::size_of;
 /// struct v4l2_ctrl_h264_decode_params, of V4L2_CID_STATELESS_H264_DECODE_PARAMS: 560 bytes.
 #[repr(C)]
 #[derive(Clone, Copy, Debug, PartialEq, Eq, Serialize)]
-pub struct DecodeParams {
-    pub dpb: [DpbEntry; 16],
+pub struct DecodeParamsLayout {
+    pub dpb: [DpbEntryLayout; 16],
     pub nal_ref_idc: u16,
     pub frame_num: u16,
     pub top_field_order_cnt: i32,
@@ -35,7 +35,7 @@ pub struct DecodeParams {
     pub flags: u32,
 }
 
-const _: () = prove!(size_of::<DecodeParams>() == 560);
+const _: () = prove!(size_of::<DecodeParamsLayout>() == 560);
 
 /// V4L2_H264_DECODE_PARAM_FLAG_*.
 const DECODE_PARAM_FLAGS: [&str; 5] = [
@@ -46,13 +46,13 @@ const DECODE_PARAM_FLAGS: [&str; 5] = [
     "V4L2_H264_DECODE_PARAM_FLAG_BFRAME",
 ];
 
-impl DecodeParams {
+impl DecodeParamsLayout {
     /// The struct of the control, whose frames were decoded from these units: reference_ts of an
     /// entry is the timestamp of its unit.
-    pub fn of(control: &V4l2CtrlH264DecodeParams, references: &References) -> DecodeParams
+    pub fn of(control: &V4l2CtrlH264DecodeParams, references: &References) -> DecodeParamsLayout
         ensures { result ≡ decode_params_layout references.now control.now }
     {
-        DecodeParams {
+        DecodeParamsLayout {
             dpb: dpb(control.dpb.as_slice(), references.as_slice()),
             nal_ref_idc: control.nal_ref_idc,
             frame_num: control.frame_num,
@@ -73,12 +73,12 @@ impl DecodeParams {
 }
 
 /// The entries with their units, and zeros up to 16 of them.
-fn dpb(entries: &[V4l2H264DpbEntry], units: &[AuId]) -> [DpbEntry; 16]
+fn dpb(entries: &[V4l2H264DpbEntry], units: &[AuId]) -> [DpbEntryLayout; 16]
     ensures { result ≡ dpb_layout entries.now units.now }
 {
     let mut dpb = [NO_ENTRY; 16];
     for place in 0..16 {
-        dpb[place] = DpbEntry::at(entries, units, place);
+        dpb[place] = DpbEntryLayout::at(entries, units, place);
     }
     dpb
 }

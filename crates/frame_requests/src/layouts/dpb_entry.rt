@@ -13,7 +13,7 @@ use std::mem::size_of;
 /// struct v4l2_h264_dpb_entry: all zeros where it holds no frame.
 #[repr(C)]
 #[derive(Clone, Copy, Debug, PartialEq, Eq, Serialize)]
-pub struct DpbEntry {
+pub struct DpbEntryLayout {
     /// The timestamp of the frame, in nanoseconds.
     pub reference_ts: u64,
     pub pic_num: u32,
@@ -28,7 +28,7 @@ pub struct DpbEntry {
     pub flags: u32,
 }
 
-const _: () = prove!(size_of::<DpbEntry>() == 32);
+const _: () = prove!(size_of::<DpbEntryLayout>() == 32);
 
 /// V4L2_H264_DPB_ENTRY_FLAG_*.
 const DPB_ENTRY_FLAGS: [&str; 4] = [
@@ -38,7 +38,7 @@ const DPB_ENTRY_FLAGS: [&str; 4] = [
     "V4L2_H264_DPB_ENTRY_FLAG_FIELD",
 ];
 
-pub(crate) const NO_ENTRY: DpbEntry = DpbEntry {
+pub(crate) const NO_ENTRY: DpbEntryLayout = DpbEntryLayout {
     reference_ts: 0,
     pic_num: 0,
     frame_num: 0,
@@ -49,21 +49,21 @@ pub(crate) const NO_ENTRY: DpbEntry = DpbEntry {
     flags: 0,
 };
 
-impl DpbEntry {
+impl DpbEntryLayout {
     /// The entry at a place of the decoded picture buffer, where it holds a frame.
-    pub(crate) fn at(entries: &[V4l2H264DpbEntry], units: &[AuId], place: usize) -> DpbEntry
+    pub(crate) fn at(entries: &[V4l2H264DpbEntry], units: &[AuId], place: usize) -> DpbEntryLayout
         ensures { result ≡ dpb_entry_at entries.now units.now place }
     {
         match entries.get(place) {
-            Some(entry) => DpbEntry::of(entry, reference_ts_at(units, place)),
+            Some(entry) => DpbEntryLayout::of(entry, reference_ts_at(units, place)),
             None => NO_ENTRY,
         }
     }
 
-    fn of(entry: &V4l2H264DpbEntry, reference_ts: u64) -> DpbEntry
+    fn of(entry: &V4l2H264DpbEntry, reference_ts: u64) -> DpbEntryLayout
         ensures { result ≡ dpb_entry_layout reference_ts entry.now }
     {
-        DpbEntry {
+        DpbEntryLayout {
             reference_ts,
             pic_num: entry.pic_num,
             frame_num: entry.frame_num,

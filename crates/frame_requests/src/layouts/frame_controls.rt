@@ -4,45 +4,45 @@ ghost use Rattle.std.specs.Prelude.{◌≡◌};
 ghost use Rattle.frame_requests.specs.FrameControlsLayout.{frame_controls_layout, frame_decode_params};
 
 use crate::FrameRequest;
-use crate::layouts::decode_params::DecodeParams;
-use crate::layouts::pps::Pps;
-use crate::layouts::scaling_matrix::ScalingMatrix;
-use crate::layouts::sps::Sps;
+use crate::layouts::decode_params::DecodeParamsLayout;
+use crate::layouts::pps::PpsLayout;
+use crate::layouts::scaling_matrix::ScalingMatrixLayout;
+use crate::layouts::sps::SpsLayout;
 use std::mem::size_of;
 
 /// The four controls of a picture's frame request: 2,104 bytes, with four of no meaning before the
 /// last one.
 #[repr(C)]
 #[derive(Clone, Copy, Debug, PartialEq, Eq)]
-pub struct FrameControls {
-    pub sps: Sps,
-    pub pps: Pps,
-    pub scaling_matrix: ScalingMatrix,
-    pub decode_params: DecodeParams,
+pub struct FrameControlsLayout {
+    pub sps: SpsLayout,
+    pub pps: PpsLayout,
+    pub scaling_matrix: ScalingMatrixLayout,
+    pub decode_params: DecodeParamsLayout,
 }
 
-const _: () = prove!(size_of::<FrameControls>() == 2104);
+const _: () = prove!(size_of::<FrameControlsLayout>() == 2104);
 
-impl FrameControls {
+impl FrameControlsLayout {
     /// The structs of the request's controls.
-    pub fn of(frame: &FrameRequest) -> FrameControls
+    pub fn of(frame: &FrameRequest) -> FrameControlsLayout
         ensures { result ≡ frame_controls_layout frame.now }
     {
-        FrameControls {
-            sps: Sps::of(&frame.sets.sps),
-            pps: Pps::of(&frame.sets.pps),
-            scaling_matrix: ScalingMatrix::of(&frame.sets.scaling_matrix),
+        FrameControlsLayout {
+            sps: SpsLayout::of(&frame.sets.sps),
+            pps: PpsLayout::of(&frame.sets.pps),
+            scaling_matrix: ScalingMatrixLayout::of(&frame.sets.scaling_matrix),
             decode_params: decode_params(frame),
         }
     }
 }
 
 /// The decode parameters of the first slice, with the picture's flags.
-fn decode_params(frame: &FrameRequest) -> DecodeParams
+fn decode_params(frame: &FrameRequest) -> DecodeParamsLayout
     ensures { result ≡ frame_decode_params frame.now }
 {
-    DecodeParams {
+    DecodeParamsLayout {
         flags: frame.flags.number(),
-        ..DecodeParams::of(&frame.decode_params, &frame.references)
+        ..DecodeParamsLayout::of(&frame.decode_params, &frame.references)
     }
 }

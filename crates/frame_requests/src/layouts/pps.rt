@@ -13,7 +13,7 @@ use std::mem::size_of;
 /// struct v4l2_ctrl_h264_pps, of V4L2_CID_STATELESS_H264_PPS: 12 bytes.
 #[repr(C)]
 #[derive(Clone, Copy, Debug, PartialEq, Eq, Serialize)]
-pub struct Pps {
+pub struct PpsLayout {
     pub pic_parameter_set_id: u8,
     pub seq_parameter_set_id: u8,
     pub num_slice_groups_minus1: u8,
@@ -29,7 +29,7 @@ pub struct Pps {
     pub flags: u16,
 }
 
-const _: () = prove!(size_of::<Pps>() == 12);
+const _: () = prove!(size_of::<PpsLayout>() == 12);
 
 /// V4L2_H264_PPS_FLAG_*.
 const PPS_FLAGS: [&str; 8] = [
@@ -43,12 +43,12 @@ const PPS_FLAGS: [&str; 8] = [
     "V4L2_H264_PPS_FLAG_SCALING_MATRIX_PRESENT",
 ];
 
-impl Pps {
+impl PpsLayout {
     /// The struct of the control.
-    pub fn of(control: &V4l2CtrlH264Pps) -> Pps
+    pub fn of(control: &V4l2CtrlH264Pps) -> PpsLayout
         ensures { result ≡ pps_layout control.now }
     {
-        Pps {
+        PpsLayout {
             pic_parameter_set_id: control.pic_parameter_set_id,
             seq_parameter_set_id: control.seq_parameter_set_id,
             num_slice_groups_minus1: control.num_slice_groups_minus1,

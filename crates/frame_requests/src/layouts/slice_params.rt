@@ -13,7 +13,7 @@ use std::mem::size_of;
 /// struct v4l2_ctrl_h264_slice_params, of V4L2_CID_STATELESS_H264_SLICE_PARAMS: 152 bytes.
 #[repr(C)]
 #[derive(Clone, Copy, Debug, PartialEq, Eq, Serialize)]
-pub struct SliceParams {
+pub struct SliceParamsLayout {
     pub header_bit_size: u32,
     pub first_mb_in_slice: u32,
     pub slice_type: u8,
@@ -29,8 +29,8 @@ pub struct SliceParams {
     pub num_ref_idx_l1_active_minus1: u8,
     #[serde(skip)]
     pub reserved: u8,
-    pub ref_pic_list0: [Reference; 32],
-    pub ref_pic_list1: [Reference; 32],
+    pub ref_pic_list0: [ReferenceLayout; 32],
+    pub ref_pic_list1: [ReferenceLayout; 32],
     /// V4L2_H264_SLICE_FLAG_*.
     #[serde(serialize_with = "slice_flag_names")]
     pub flags: u32,
@@ -40,12 +40,12 @@ pub struct SliceParams {
 /// buffer; zeros where the entry is missing or isn't active.
 #[repr(C)]
 #[derive(Clone, Copy, Debug, PartialEq, Eq, Serialize)]
-pub struct Reference {
+pub struct ReferenceLayout {
     pub fields: u8,
     pub index: u8,
 }
 
-const _: () = prove!(size_of::<SliceParams>() == 152);
+const _: () = prove!(size_of::<SliceParamsLayout>() == 152);
 
 /// V4L2_H264_SLICE_FLAG_*.
 const SLICE_FLAGS: [&str; 2] = [
@@ -56,17 +56,17 @@ const SLICE_FLAGS: [&str; 2] = [
 /// V4L2_H264_FRAME_REF.
 const FRAME_REF: u8 = 3;
 
-const NO_REFERENCE: Reference = Reference {
+const NO_REFERENCE: ReferenceLayout = ReferenceLayout {
     fields: 0,
     index: 0,
 };
 
-impl SliceParams {
+impl SliceParamsLayout {
     /// The struct of the control.
-    pub fn of(control: &V4l2CtrlH264SliceParams) -> SliceParams
+    pub fn of(control: &V4l2CtrlH264SliceParams) -> SliceParamsLayout
         ensures { result ≡ slice_params_layout control.now }
     {
-        SliceParams {
+        SliceParamsLayout {
             header_bit_size: control.header_bit_size,
             first_mb_in_slice: control.first_mb_in_slice,
             slice_type: slice_type_number(control.slice_type),
@@ -95,7 +95,7 @@ fn slice_type_number(slice_type: SliceType) -> u8
 }
 
 /// The entries of a list, and zeros up to 32 of them.
-fn ref_pic_list(entries: &[Option<u8>]) -> [Reference; 32]
+fn ref_pic_list(entries: &[Option<u8>]) -> [ReferenceLayout; 32]
     ensures { result ≡ ref_pic_list entries.now }
 {
     let mut list = [NO_REFERENCE; 32];
@@ -106,11 +106,11 @@ fn ref_pic_list(entries: &[Option<u8>]) -> [Reference; 32]
 }
 
 /// The entry at a place of a list.
-fn reference_at(entries: &[Option<u8>], place: usize) -> Reference
+fn reference_at(entries: &[Option<u8>], place: usize) -> ReferenceLayout
     ensures { result ≡ reference_at entries.now place }
 {
     match entries.get(place) {
-        Some(Some(index)) => Reference {
+        Some(Some(index)) => ReferenceLayout {
             fields: FRAME_REF,
             index: *index,
         },

@@ -14,7 +14,7 @@ use std::mem::size_of;
 /// struct v4l2_ctrl_h264_sps, of V4L2_CID_STATELESS_H264_SPS: 1,048 bytes.
 #[repr(C)]
 #[derive(Clone, Copy, Debug, PartialEq, Eq, Serialize)]
-pub struct Sps {
+pub struct SpsLayout {
     pub profile_idc: u8,
     /// V4L2_H264_SPS_CONSTRAINT_SET*_FLAG.
     #[serde(serialize_with = "constraint_set_names")]
@@ -39,7 +39,7 @@ pub struct Sps {
     pub flags: u32,
 }
 
-const _: () = prove!(size_of::<Sps>() == 1048);
+const _: () = prove!(size_of::<SpsLayout>() == 1048);
 
 /// V4L2_H264_SPS_CONSTRAINT_SET*_FLAG.
 const CONSTRAINT_SETS: [&str; 6] = [
@@ -62,12 +62,12 @@ const SPS_FLAGS: [&str; 7] = [
     "V4L2_H264_SPS_FLAG_DIRECT_8X8_INFERENCE",
 ];
 
-impl Sps {
+impl SpsLayout {
     /// The struct of the control.
-    pub fn of(control: &V4l2CtrlH264Sps) -> Sps
+    pub fn of(control: &V4l2CtrlH264Sps) -> SpsLayout
         ensures { result ≡ sps_layout control.now }
     {
-        Sps {
+        SpsLayout {
             profile_idc: control.profile_idc,
             constraint_set_flags: constraint_set_number(&control.constraint_set_flags),
             level_idc: control.level_idc,

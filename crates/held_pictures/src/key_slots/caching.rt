@@ -21,7 +21,7 @@ pub(crate) fn put_in<P: Copy + Drop>(
     ensures puts { (IsPut cache.old.capacity key (keys_of cache.old.pairs) (keys_of cache.new.pairs)
         × (result ≡ 0))
         ⊎ ((keys_of cache.new.pairs ≡ keys_of cache.old.pairs) × (result ≡ 1)) }
-    ensures room { cache.new.capacity ≡ cache.old.capacity }
+    ensures capacity { cache.new.capacity ≡ cache.old.capacity }
     ensures those { (number : ℕ) (other : P) → Contains cache.new.pairs (number, other)
         → Contains cache.old.pairs (number, other) ⊎ ((number ≡ key) × (other ≡ picture)) }
     ensures accounts { IsPermutation
@@ -61,7 +61,7 @@ pub(crate) fn take_one<P: Copy + Drop>(cache: &mut PictureCache<KeyId, P>, key: 
     ensures value { result ≡ lookup (λ other. key == other) cache.old.pairs }
     ensures left { IsLeft (λ number. number
         ≡ key) (keys_of cache.old.pairs) (keys_of cache.new.pairs) }
-    ensures room { cache.new.capacity ≡ cache.old.capacity }
+    ensures capacity { cache.new.capacity ≡ cache.old.capacity }
     ensures those { (number : ℕ) (picture : P) → Contains cache.new.pairs (number, picture)
         → Contains cache.old.pairs (number, picture) }
     ensures others { (number : ℕ) → (number ≡ key → ⊥)

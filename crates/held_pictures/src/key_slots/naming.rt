@@ -8,25 +8,37 @@ ghost use Rattle.decode_jobs.specs.Keys.{Key, named_by_all};
 ghost use Rattle.picture_keys.specs.Known.{Known, key_at, key_of_outcome};
 ghost use Rattle.held_pictures.specs.Held.{AreWanted, IsHeld};
 
-use crate::key_slots::Places;
+use crate::key_slots::KeySlots;
 use decode_jobs::dep_keys::{Fingerprint, KeyId, Keys};
+use h264_types::base::Shared;
 use h264_types::pictures::AuId;
-use picture_keys::{Works, units_named};
+use picture_keys::{HashedOutcome, RequestBodies, units_named};
 use std::alloc::{AllocError, Global};
 use unit_outcomes::Outcome;
 
+/// The units of a stream column by column: their ids, their outcomes and the numbers of their keys;
+/// and beside them the keys, and the pictures that are held.
+#[derive(Drop)]
+pub struct Units<'a, F: Fingerprint<RequestBodies>, P> {
+    pub keys: &'a Keys<RequestBodies, F>,
+    pub key_slots: &'a KeySlots<P>,
+    pub ids: &'a [AuId],
+    pub outcomes: &'a [Shared<HashedOutcome>],
+    pub numbers: &'a [Option<KeyId>],
+}
+
 /// Whether the picture of a key is held.
-pub fn is_held<P: Copy + Drop>(places: &Places<P>, key: KeyId) -> bool
-    ensures { IsTrue result ↔ IsHeld places.now key }
+pub fn is_held<P: Copy + Drop>(key_slots: &KeySlots<P>, key: KeyId) -> bool
+    ensures { IsTrue result ↔ IsHeld key_slots.now key }
 {
-    places.is_held(key)
+    key_slots.is_held(key)
 }
 
 /// Adds the ids that the lists of a unit with this key have, of units whose pictures aren't held.
-pub(crate) fn want_named<F: Fingerprint<Works>, P: Copy + Drop>(
+pub(crate) fn want_named<F: Fingerprint<RequestBodies>, P: Copy + Drop>(
     alloc: Global,
-    keys: &Keys<Works, F>,
-    places: &Places<P>,
+    keys: &Keys<RequestBodies, F>,
+    key_slots: &KeySlots<P>,
     outcome: &Outcome,
     key: KeyId,
     wanted: &mut Vec<AuId>,
@@ -40,7 +52,7 @@ pub(crate) fn want_named<F: Fingerprint<Works>, P: Copy + Drop>(
         → tree_at keys.now key ≡ key_of_outcome known outcome.now
         → outcome.now ≡ becomes.Plan plan → Contains (named_by_all plan.requests) (Some id)
         → key_at known id ≡ Some own
-        → ((number : ℕ) → tree_at keys.now number ≡ Some own → IsHeld places.now number → ⊥)
+        → ((number : ℕ) → tree_at keys.now number ≡ Some own → IsHeld key_slots.now number → ⊥)
         → Contains wanted.new.items id) }
 {
     // The key of a valid unit is live.
@@ -48,12 +60,12 @@ pub(crate) fn want_named<F: Fingerprint<Works>, P: Copy + Drop>(
         return Ok(());
     };
     let units = units_named(alloc, plan.requests.as_slice())?;
-    want_all(places, &units, node.entries(), wanted)
+    want_all(key_slots, &units, node.entries(), wanted)
 }
 
 /// Adds the ids at whose entries stand keys whose pictures aren't held.
 fn want_all<P: Copy + Drop>(
-    places: &Places<P>,
+    key_slots: &KeySlots<P>,
     units: &[Option<AuId>],
     entries: &[Option<KeyId>],
     wanted: &mut Vec<AuId>,
@@ -62,17 +74,17 @@ fn want_all<P: Copy + Drop>(
         → Contains wanted.new.items id) }
     ensures only { OnOk result ((id : ℕ) → Contains wanted.new.items id
         → Contains wanted.old.items id ⊎ Contains units.now (Some id)) }
-    ensures all { OnOk result (AreWanted places.now units.now entries.now wanted.new.items) }
+    ensures all { OnOk result (AreWanted key_slots.now units.now entries.now wanted.new.items) }
 {
     for at in 0..units.len().min(entries.len()) {
-        want_entry(places, units[at], entries[at], wanted)?;
+        want_entry(key_slots, units[at], entries[at], wanted)?;
     }
     Ok(())
 }
 
 /// Adds the id at an entry, where a key stands there whose picture isn't held.
 fn want_entry<P: Copy + Drop>(
-    places: &Places<P>,
+    key_slots: &KeySlots<P>,
     unit: Option<AuId>,
     entry: Option<KeyId>,
     wanted: &mut Vec<AuId>,
@@ -82,17 +94,17 @@ fn want_entry<P: Copy + Drop>(
     ensures only { OnOk result ((other : ℕ) → Contains wanted.new.items other
         → Contains wanted.old.items other ⊎ (unit ≡ Some other)) }
     ensures all { OnOk result ((id number : ℕ) → unit ≡ Some id → entry ≡ Some number
-        → (IsHeld places.now number → ⊥) → Contains wanted.new.items id) }
+        → (IsHeld key_slots.now number → ⊥) → Contains wanted.new.items id) }
 {
     match (unit, entry) {
-        (Some(id), Some(key)) => want(places, id, key, wanted),
+        (Some(id), Some(key)) => want(key_slots, id, key, wanted),
         _ => Ok(()),
     }
 }
 
 /// Adds the id of a unit with this key, where its picture isn't held.
 fn want<P: Copy + Drop>(
-    places: &Places<P>,
+    key_slots: &KeySlots<P>,
     id: AuId,
     key: KeyId,
     wanted: &mut Vec<AuId>,
@@ -101,9 +113,9 @@ fn want<P: Copy + Drop>(
         → Contains wanted.new.items other) }
     ensures only { OnOk result ((other : ℕ) → Contains wanted.new.items other
         → Contains wanted.old.items other ⊎ (other ≡ id)) }
-    ensures all { OnOk result ((IsHeld places.now key → ⊥) → Contains wanted.new.items id) }
+    ensures all { OnOk result ((IsHeld key_slots.now key → ⊥) → Contains wanted.new.items id) }
 {
-    if is_held(places, key) || is_among(wanted, id) {
+    if is_held(key_slots, key) || is_among(wanted, id) {
         return Ok(());
     }
     wanted.push(id)?;

@@ -7,11 +7,10 @@ ghost use Rattle.held_pictures.specs.Held.{IsHeld, IsWaiting};
 ghost use Rattle.held_pictures.specs.Needed.{AreNeeded, Lists, Names};
 ghost use Rattle.held_pictures.specs.Scanned.{IsScanned};
 
-use crate::key_slots::naming::{is_among, is_held, want_named};
-use crate::key_slots::units::Units;
+use crate::key_slots::naming::{Units, is_among, is_held, want_named};
 use decode_jobs::dep_keys::{Fingerprint, KeyId};
 use h264_types::pictures::AuId;
-use picture_keys::Works;
+use picture_keys::RequestBodies;
 use std::alloc::{AllocError, Global};
 
 /// What was found so far: the places of needed units, the last one first, and the ids of those that
@@ -26,7 +25,7 @@ pub(crate) struct Scan {
 /// The places of the units that the picture of the unit at a place needs, the last one first: none
 /// where that unit isn't valid, or its picture is held. Each place from there down to the earliest
 /// of them is gone over once.
-pub fn needed_places<F: Fingerprint<Works>, P: Copy + Drop>(
+pub fn needed_places<F: Fingerprint<RequestBodies>, P: Copy + Drop>(
     alloc: Global,
     units: &Units<'_, F, P>,
     target: usize,
@@ -34,8 +33,8 @@ pub fn needed_places<F: Fingerprint<Works>, P: Copy + Drop>(
     requires columns { AreColumns units.now.keys.now units.now.ids.now units.now.outcomes.now
         units.now.numbers.now }
     requires within { target < length units.now.ids.now }
-    ensures { IfOk result (λ places. AreNeeded (zip units.now.ids.now units.now.outcomes.now)
-        (IsWaiting units.now.numbers.now units.now.places.now) target places.items) }
+    ensures { IfOk result (λ key_slots. AreNeeded (zip units.now.ids.now units.now.outcomes.now)
+        (IsWaiting units.now.numbers.now units.now.key_slots.now) target key_slots.items) }
 {
     let Some(key) = waiting_key(units, target) else {
         return Ok(Vec::new(alloc));
@@ -50,18 +49,18 @@ pub fn needed_places<F: Fingerprint<Works>, P: Copy + Drop>(
 }
 
 /// The key of the unit at a place, where its picture isn't held.
-fn waiting_key<F: Fingerprint<Works>, P: Copy + Drop>(
+fn waiting_key<F: Fingerprint<RequestBodies>, P: Copy + Drop>(
     units: &Units<'_, F, P>,
     at: usize,
 ) -> Option<KeyId>
     requires { at < length units.now.numbers.now }
     ensures { MatchOption result
-        (IsWaiting units.now.numbers.now units.now.places.now at → ⊥)
+        (IsWaiting units.now.numbers.now units.now.key_slots.now at → ⊥)
         (λ key. (slice_get units.now.numbers.now at ≡ Some (Some key))
-        × (IsHeld units.now.places.now key → ⊥)) }
+        × (IsHeld units.now.key_slots.now key → ⊥)) }
 {
     let key = units.numbers[at]?;
-    if is_held(units.places, key) {
+    if is_held(units.key_slots, key) {
         return None;
     }
     Some(key)
@@ -69,7 +68,7 @@ fn waiting_key<F: Fingerprint<Works>, P: Copy + Drop>(
 
 /// Goes over the places below one, down to where no unit is wanted any more: within the period, as
 /// no lists name a unit before it.
-fn go_down<F: Fingerprint<Works>, P: Copy + Drop>(
+fn go_down<F: Fingerprint<RequestBodies>, P: Copy + Drop>(
     alloc: Global,
     units: &Units<'_, F, P>,
     from: usize,
@@ -80,10 +79,10 @@ fn go_down<F: Fingerprint<Works>, P: Copy + Drop>(
     requires within { from < length units.now.ids.now }
     ensures { OnOk result ((target : ℕ)
         → IsScanned (zip units.now.ids.now units.now.outcomes.now)
-        (IsWaiting units.now.numbers.now units.now.places.now) target from
+        (IsWaiting units.now.numbers.now units.now.key_slots.now) target from
         scan.old.wanted.items scan.old.needed.items
         → AreNeeded (zip units.now.ids.now units.now.outcomes.now)
-        (IsWaiting units.now.numbers.now units.now.places.now) target
+        (IsWaiting units.now.numbers.now units.now.key_slots.now) target
         scan.new.needed.items) }
 {
     let mut at = from;
@@ -95,7 +94,7 @@ fn go_down<F: Fingerprint<Works>, P: Copy + Drop>(
 }
 
 /// Goes over the unit at a place, below which no place was gone over.
-fn meet<F: Fingerprint<Works>, P: Copy + Drop>(
+fn meet<F: Fingerprint<RequestBodies>, P: Copy + Drop>(
     alloc: Global,
     units: &Units<'_, F, P>,
     at: usize,
@@ -106,10 +105,10 @@ fn meet<F: Fingerprint<Works>, P: Copy + Drop>(
     requires within { at < length units.now.ids.now }
     ensures { OnOk result ((target : ℕ)
         → IsScanned (zip units.now.ids.now units.now.outcomes.now)
-        (IsWaiting units.now.numbers.now units.now.places.now) target (at + 1)
+        (IsWaiting units.now.numbers.now units.now.key_slots.now) target (at + 1)
         scan.old.wanted.items scan.old.needed.items
         → IsScanned (zip units.now.ids.now units.now.outcomes.now)
-        (IsWaiting units.now.numbers.now units.now.places.now) target at
+        (IsWaiting units.now.numbers.now units.now.key_slots.now) target at
         scan.new.wanted.items scan.new.needed.items) }
 {
     let id = units.ids[at];
@@ -124,7 +123,7 @@ fn meet<F: Fingerprint<Works>, P: Copy + Drop>(
 }
 
 /// Adds the place of a needed unit, and wants the waiting units that its lists name.
-fn find<F: Fingerprint<Works>, P: Copy + Drop>(
+fn find<F: Fingerprint<RequestBodies>, P: Copy + Drop>(
     alloc: Global,
     units: &Units<'_, F, P>,
     at: usize,
@@ -143,7 +142,7 @@ fn find<F: Fingerprint<Works>, P: Copy + Drop>(
         ⊎ Lists (zip units.now.ids.now units.now.outcomes.now) at id) }
     ensures all { OnOk result ((other : ℕ)
         → (names : Names (zip units.now.ids.now units.now.outcomes.now) at other)
-        → IsWaiting units.now.numbers.now units.now.places.now other
+        → IsWaiting units.now.numbers.now units.now.key_slots.now other
         → Contains scan.new.wanted.items names.id) }
 {
     scan.needed.push(at)?;
@@ -151,7 +150,7 @@ fn find<F: Fingerprint<Works>, P: Copy + Drop>(
     want_named(
         alloc,
         units.keys,
-        units.places,
+        units.key_slots,
         outcome,
         key,
         &mut scan.wanted,

@@ -1,7 +1,7 @@
-ghost use Rattle.std.specs.Prelude.{◌≡◌, ◌≤◌, ◌==◌, [], ◌∷◌, ◌++◌, length, is_some, option_copied, option_map, IfErr, IfOk, IsOk, IsPermutation, IsSome, MatchOption};
+ghost use Rattle.std.specs.Prelude.{◌≡◌, ◌≤◌, ◌==◌, [], ◌∷◌, ◌++◌, length, is_some, option_copied, option_map, IfErr, IfOk, IsOk, IsPermutation, IsSome, MatchOption, ◌<◌, Some, None, false};
 ghost use Rattle.std.specs.Option.{option_to_list};
 ghost use Rattle.std.specs.Map.{lookup, keys_of, values_of};
-ghost use Rattle.held_pictures.specs.Bounded.{IsStructural, IsBounded, most_room, pushed_out, with_first, without};
+ghost use Rattle.held_pictures.specs.Bounded.{IsStructural, IsBounded, most_capacity, pushed_out, with_first, without, Bounded};
 
 use lru::LruCache;
 use std::alloc::{AllocError, Global};
@@ -10,7 +10,7 @@ use std::marker::Model;
 use std::num::NonZeroUsize;
 
 /// For how many pairs a cache has room at most.
-pub const MOST_ROOM: u16 = 4_096;
+pub const MOST_CAPACITY: u16 = 4_096;
 
 /// A list of pairs of a key and a picture, the pair put last first, of at most `capacity` pairs.
 ///
@@ -39,7 +39,7 @@ impl<K: Eq + Hash + Drop, P: Drop> PictureCache<K, P> {
     pub fn new(alloc: Global, capacity: u16) -> Result<Self, AllocError>
         requires structural { IsStructural K.eq }
         requires least { 1 ≤ capacity }
-        requires most { capacity ≤ most_room }
+        requires most { capacity ≤ most_capacity }
         ensures { IfOk result (λ cache. cache ≡ record { pairs = []; capacity = capacity }) }
     {
         let most = NonZeroUsize::new(usize::from(capacity)).unwrap();
@@ -152,3 +152,26 @@ fn second<K: Drop, P>(pair: Option<(K, P)>) -> Option<P>
         None => None,
     }
 }
+
+/// A put picture is found under its key.
+pub fn put_is_found<K: Eq + Hash, P>()
+    ensures { (cache : Bounded K P) (key : K) (picture : P) → IsBounded K.eq cache
+        → lookup (K.eq key) (with_first K.eq cache key picture).pairs ≡ Some picture }
+{}
+
+/// A put pushes no other pair out where there is room for one more.
+pub fn put_keeps_the_others<K: Eq + Hash, P>()
+    ensures { (cache : Bounded K P) (key other : K) (picture : P) → IsBounded K.eq cache
+        → length cache.pairs < cache.capacity → K.eq key other ≡ false
+        → lookup (K.eq other) (with_first K.eq cache key picture).pairs
+        ≡ lookup (K.eq other) cache.pairs }
+{}
+
+/// A picture that was taken is out, and the others stay.
+pub fn take_keeps_the_others<K: Eq + Hash, P>()
+    ensures out { (cache : Bounded K P) (key : K) → IsBounded K.eq cache
+        → lookup (K.eq key) (without K.eq cache key).pairs ≡ None }
+    ensures others { (cache : Bounded K P) (key other : K) → IsBounded K.eq cache
+        → K.eq key other ≡ false
+        → lookup (K.eq other) (without K.eq cache key).pairs ≡ lookup (K.eq other) cache.pairs }
+{}

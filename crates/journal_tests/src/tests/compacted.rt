@@ -2,13 +2,13 @@
 
 use super::row_holds;
 use bytes::Bytes;
-use edit_journal::{FileJournal, JournalFault, Kind, Step as Kept, Wary, open};
+use edit_journal::{FileJournal, JournalFault, Kind, RowStep, Wary, open};
 use h264_types::pictures::AuId;
-use session_journal::{Journals, Records, SessionFile, Snapshot, Step, Unkept};
+use session_journal::{Journals, RecordedStep, Records, SessionFile, Snapshot, Unkept};
 use std::alloc::{AllocError, Global};
 use std::fs;
 use std::test::Fail;
-use stream_edits::{Edit, Place};
+use stream_edits::{Edit, InsertionPoint};
 
 /// An id and the text of its unit.
 type Unit = (u32, &'static [u8]);
@@ -29,7 +29,7 @@ fn snapshot(alloc: Global, units: &[Unit]) -> Result<Snapshot, AllocError> {
 }
 
 fn insertion() -> Edit {
-    Edit::Insert(Place::First, Bytes::from_static(&[5]))
+    Edit::Insert(InsertionPoint::First, Bytes::from_static(&[5]))
 }
 
 /// Records an edit, puts the snapshot in its place, which nothing takes off, and records another one.
@@ -64,9 +64,9 @@ fn are(units: &[(AuId, Bytes)], wanted: &[Unit]) -> bool {
 }
 
 /// Whether the step is the snapshot of these units.
-fn is_snapshot(step: &Step, wanted: &[Unit]) -> bool {
+fn is_snapshot(step: &RecordedStep, wanted: &[Unit]) -> bool {
     match step {
-        Step::Snapshot(snapshot) => {
+        RecordedStep::Snapshot(snapshot) => {
             are(snapshot.units(), wanted) && snapshot.ids_given() == GIVEN
         }
         _ => false,
@@ -98,8 +98,8 @@ fn a_snapshot_is_read_back(rt: HostRuntime) -> Result<(), Fail> {
 }
 
 /// A row without a text.
-fn row(kind: Kind, id: u32) -> Kept {
-    Kept {
+fn row(kind: Kind, id: u32) -> RowStep {
+    RowStep {
         kind,
         id,
         named: 0,

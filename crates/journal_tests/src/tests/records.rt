@@ -2,7 +2,7 @@
 
 use super::{Row, holds};
 use bytes::Bytes;
-use edit_journal::{FileJournal, JournalFault, Kind, Step, Wary, open};
+use edit_journal::{FileJournal, JournalFault, Kind, RowStep, Wary, open};
 use std::fs::{self, File};
 use std::io;
 use std::test::Fail;
@@ -34,8 +34,8 @@ const SHORTENED: [Row; 4] = [
 
 const REWRITTEN: [Row; 2] = [(1, 0, Kind::Unit, 2, 0, 1), (1, 1, Kind::Given, 2, 0, 0)];
 
-fn step(kind: Kind, id: u32, named: u32, text: &'static [u8]) -> Step {
-    Step {
+fn step(kind: Kind, id: u32, named: u32, text: &'static [u8]) -> RowStep {
+    RowStep {
         kind,
         id,
         named,

@@ -3,11 +3,11 @@
 use super::row_holds;
 use bytes::Bytes;
 use h264_types::pictures::AuId;
-use session_journal::{Journals, Records, SessionFile, Step, Unkept};
+use session_journal::{Journals, RecordedStep, Records, SessionFile, Unkept};
 use std::alloc::Global;
 use std::fs;
 use std::test::Fail;
-use stream_edits::{Edit, Place};
+use stream_edits::{Edit, InsertionPoint};
 
 /// What a step is: whether it is a load, and how many edits it has.
 type Shape = (bool, usize);
@@ -15,13 +15,13 @@ type Shape = (bool, usize);
 /// An edit, a group, and what is left of a load of three units once two of them are made.
 const RECORDED: [Shape; 3] = [(false, 1), (false, 2), (true, 2)];
 
-fn insertion_at(place: Place) -> Edit {
+fn insertion_at(place: InsertionPoint) -> Edit {
     Edit::Insert(place, Bytes::from_static(&[1, 2]))
 }
 
 /// An insertion behind the unit of an id.
 fn insertion(after: u32) -> Edit {
-    insertion_at(Place::After(AuId::new(after)))
+    insertion_at(InsertionPoint::After(AuId::new(after)))
 }
 
 fn deletion(id: u32) -> Edit {
@@ -30,8 +30,8 @@ fn deletion(id: u32) -> Edit {
 
 /// Records an edit, a group, a load of which two units are made, and an edit that isn't made.
 fn record(alloc: Global, journal: &mut SessionFile) -> Result<(), Unkept> {
-    journal.keep_edit(&insertion_at(Place::First))?;
-    journal.keep_group(&[deletion(1), insertion_at(Place::First)])?;
+    journal.keep_edit(&insertion_at(InsertionPoint::First))?;
+    journal.keep_group(&[deletion(1), insertion_at(InsertionPoint::First)])?;
     let load = vec![in alloc; insertion(2), insertion(3), insertion(4)]?;
     journal.keep_load(load)?;
     journal.shorten(2);
@@ -46,15 +46,15 @@ fn record_none(journal: &mut SessionFile) -> bool {
 }
 
 /// What the step is, unless it is a snapshot.
-fn shape(step: &Step) -> Option<Shape> {
+fn shape(step: &RecordedStep) -> Option<Shape> {
     match step {
-        Step::Edits(edits) => Some((false, edits.edits().len())),
-        Step::Load(edits) => Some((true, edits.edits().len())),
-        Step::Snapshot(_) => None,
+        RecordedStep::Edits(edits) => Some((false, edits.edits().len())),
+        RecordedStep::Load(edits) => Some((true, edits.edits().len())),
+        RecordedStep::Snapshot(_) => None,
     }
 }
 
-fn are(steps: &[Step], wanted: &[Shape]) -> bool {
+fn are(steps: &[RecordedStep], wanted: &[Shape]) -> bool {
     if steps.len() != wanted.len() {
         return false;
     }
@@ -104,7 +104,7 @@ fn take_off(rt: &HostRuntime, path: &str, all: bool) -> bool {
 fn record_group(rt: &HostRuntime, path: &str) -> bool {
     match rt.open_journal(rt.alloc(), path) {
         Ok((mut journal, _steps)) => journal
-            .keep_group(&[deletion(2), insertion_at(Place::First)])
+            .keep_group(&[deletion(2), insertion_at(InsertionPoint::First)])
             .is_ok(),
         Err(_) => false,
     }
@@ -127,7 +127,7 @@ fn steps_are_read_back(rt: HostRuntime) -> Result<(), Fail> {
 
 /// Records an insertion in front of all units, and one behind the id 0, which no unit has.
 fn record_places(journal: &mut SessionFile) -> Result<(), Unkept> {
-    journal.keep_edit(&insertion_at(Place::First))?;
+    journal.keep_edit(&insertion_at(InsertionPoint::First))?;
     journal.keep_edit(&insertion(0))
 }
 
@@ -140,13 +140,13 @@ fn record_places_in(rt: &HostRuntime, path: &str) -> bool {
 }
 
 /// Where the only edit of the step inserts its unit.
-fn place(step: &Step) -> Option<Place> {
+fn place(step: &RecordedStep) -> Option<InsertionPoint> {
     match step {
-        Step::Edits(edits) => match edits.edits() {
+        RecordedStep::Edits(edits) => match edits.edits() {
             [Edit::Insert(place, _)] => Some(*place),
             _ => None,
         },
-        Step::Load(_) | Step::Snapshot(_) => None,
+        RecordedStep::Load(_) | RecordedStep::Snapshot(_) => None,
     }
 }
 
@@ -155,8 +155,8 @@ fn holds_places(rt: &HostRuntime, path: &str) -> bool {
     match rt.open_journal(rt.alloc(), path) {
         Ok((_journal, steps)) => match steps.as_slice() {
             [first, second] => {
-                place(first) == Some(Place::First)
-                    && place(second) == Some(Place::After(AuId::new(0)))
+                place(first) == Some(InsertionPoint::First)
+                    && place(second) == Some(InsertionPoint::After(AuId::new(0)))
             }
             _ => false,
         },

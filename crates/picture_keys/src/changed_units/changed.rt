@@ -1,9 +1,9 @@
-//! A stretch of places of units that changed.
+//! A range of places of units that changed.
 
 ghost use Rattle.std.specs.Prelude.{◌≡◌, ◌+◌, ◌<◌, ◌≤◌, ◌^◌};
-ghost use Rattle.picture_keys.specs.Stretches.{no_units, with_unit};
+ghost use Rattle.picture_keys.specs.Ranges.{no_units, with_unit};
 
-/// The least stretch of places that has every unit that changed: the first place, and how many
+/// The least range of places that has every unit that changed: the first place, and how many
 /// there are; 0 and 0 where none changed.
 #[derive(Clone, Copy, Debug, PartialEq, Eq, Drop)]
 pub struct Changed {

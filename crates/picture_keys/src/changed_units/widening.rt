@@ -1,14 +1,14 @@
-//! The stretch of units that changed, found by going over units.
+//! The range of units that changed, found by going over units.
 
 ghost use Rattle.std.specs.Prelude.{◌≡◌, ◌↔◌, ℕ, ◌+◌, ◌<◌, ◌≤◌, ◌^◌, List, ◌++◌, Some, length, Contains, IsTrue, MatchOption, slice_get};
 ghost use Rattle.picture_keys.specs.Units.{AreAligned, AreDifferent, ComparedUnit, units_in};
-ghost use Rattle.picture_keys.specs.Stretches.{IsLeast};
+ghost use Rattle.picture_keys.specs.Ranges.{IsLeast};
 
 use crate::changed_units::changed::Changed;
 use crate::changed_units::columns::{UnitColumns, are_alike};
 use crate::changed_units::finding::{find, greatest};
 
-/// Goes over units that stand from a place on, behind a stretch, and widens it by those that
+/// Goes over units that stand from a place on, behind a range, and widens it by those that
 /// weren't there before. Ids that were there are found at once while they keep their order, and no
 /// new one is looked for, as it is greater than all that were. Takes no memory.
 pub fn widen(

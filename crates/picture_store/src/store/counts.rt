@@ -4,6 +4,9 @@ ghost use Rattle.std.specs.Prelude.{◌≡◌, ◌≢◌, AllPairs, length};
 
 use super::PictureStore;
 use decode_jobs::Decoded;
+use h264_types::base::Shared;
+use h264_types::pictures::AuId;
+use picture_keys::HashedOutcome;
 
 impl<P: Decoded> PictureStore<P> {
     /// How many jobs are out.
@@ -18,7 +21,7 @@ impl<P: Decoded> PictureStore<P> {
         ensures count { result ≡ length self.now.held }
         ensures once { AllPairs ◌≢◌ self.now.held }
     {
-        self.places.held()
+        self.key_slots.held()
     }
 
     /// How many keys there are whose pictures are cached.
@@ -26,5 +29,21 @@ impl<P: Decoded> PictureStore<P> {
         ensures { result ≡ length self.now.cached }
     {
         self.cache.len()
+    }
+}
+
+impl<P: Decoded> PictureStore<P> {
+    /// The ids of the units, in the order of the stream.
+    pub fn ids(&self) -> &[AuId]
+        ensures { result.now ≡ self.now.ids }
+    {
+        self.ids.as_slice()
+    }
+
+    /// Each unit's outcome, in the order of the stream.
+    pub fn outcomes(&self) -> &[Shared<HashedOutcome>]
+        ensures { result.now ≡ self.now.outcomes }
+    {
+        self.outcomes.as_slice()
     }
 }

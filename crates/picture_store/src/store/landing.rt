@@ -6,7 +6,7 @@ ghost use Rattle.picture_store.specs.Jobs.{AnswersLandOf, AnswersResult, LandsTh
 
 use super::PictureStore;
 use crate::answers::Landing;
-use crate::filling::{fill, looked_after};
+use crate::filling::{fill, searched_after};
 use crate::job_out::{first_numbered, place_of};
 use crate::rescheduling::{after_landing, if_ready};
 use decode_jobs::{Decoded, Finished};
@@ -45,12 +45,12 @@ impl<P: Decoded> PictureStore<P> {
         ensures { LandsThere self.old at picture result self.new }
     {
         let job = self.jobs_out.remove(at);
-        let schedule = if_ready(&self.keys, &self.places, job.key, self.schedule.take());
-        let landing = fill(&mut self.places, job.key, picture);
-        self.units_not_due = looked_after(self.units_not_due, landing, job.first_place);
+        let schedule = if_ready(&self.keys, &self.key_slots, job.key, self.schedule.take());
+        let landing = fill(&mut self.key_slots, job.key, picture);
+        self.units_not_due = searched_after(self.units_not_due, landing, job.first_place);
         self.schedule = after_landing(
             &self.keys,
-            &self.places,
+            &self.key_slots,
             &self.jobs_out,
             &self.numbers,
             schedule,

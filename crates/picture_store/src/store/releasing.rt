@@ -18,10 +18,10 @@ impl<P: Decoded> PictureStore<P> {
         let Some(key) = self.numbers[at] else {
             return None;
         };
-        if !is_held(&self.places, key) {
+        if !is_held(&self.key_slots, key) {
             return None;
         }
-        let picture = self.places.empty(key);
+        let picture = self.key_slots.empty(key);
         self.units_settled = 0;
         self.units_not_due = 0;
         self.schedule = None;

@@ -8,7 +8,7 @@ use bytes::Bytes;
 use decode_jobs::{Decoded, Job, Undone};
 use decode_pool::{Decoder, DeskOf, Made, Settled, Worked, work_with};
 use h264_types::pictures::AuId;
-use stand_in_session::{Config, Edit, Place};
+use stand_in_session::{Config, Edit, InsertionPoint};
 use std::alloc::{AllocError, Global};
 use std::process::Abort;
 use std::sync::Wait;
@@ -181,8 +181,8 @@ impl<'a> Editor<'a> {
             return;
         };
         match self.draws.below(16) {
-            0 => self.edit(rt, Edit::Insert(Place::First, text)),
-            1 | 2 | 3 | 4 => self.edit(rt, Edit::Insert(Place::After(id), text)),
+            0 => self.edit(rt, Edit::Insert(InsertionPoint::First, text)),
+            1 | 2 | 3 | 4 => self.edit(rt, Edit::Insert(InsertionPoint::After(id), text)),
             5 | 6 => self.edit(rt, Edit::Replace(id, text)),
             7 | 8 | 9 => self.edit(rt, Edit::Delete(id)),
             10 | 11 => self.drop_picture(rt, id),
@@ -327,7 +327,7 @@ fn each_handle_comes_back_once_from_two_workers_and_an_editor(rt: HostRuntime) -
 fn a_handle_that_comes_too_late_goes_back_to_its_decoder(rt: HostRuntime) -> Result<(), Fail> {
     let desk = opened(&rt, 1);
     let handles = Handles::new(rt.alloc())?;
-    let insertion = Edit::Insert(Place::First, Bytes::from_static(A));
+    let insertion = Edit::Insert(InsertionPoint::First, Bytes::from_static(A));
     let Ok(read) = insertion.read(rt.alloc()) else {
         panic!(rt; "the edit isn't read");
     };

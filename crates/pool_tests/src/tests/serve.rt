@@ -19,7 +19,7 @@ use console_io::{InputFault, Source};
 use failure_reasons::Explain;
 use recorded::Few;
 use serve_run::{ServeEnd, Service, serve_alone};
-use session_journal::Step;
+use session_journal::RecordedStep;
 use std::alloc::{AllocError, Global};
 use std::process::Abort;
 use std::thread::Threads;
@@ -86,12 +86,12 @@ fn lines_of(alloc: Global, rows: &[Row]) -> Result<String, AllocError> {
 }
 
 /// No journal.
-fn unrecorded() -> Option<(Few, Vec<Step>)> {
+fn unrecorded() -> Option<(Few, Vec<RecordedStep>)> {
     None
 }
 
 /// What a server serves with over this journal, if there is one, and this input.
-fn service<I>(journal: Option<(Few, Vec<Step>)>, input: I) -> Service<Few, I, OneFile>
+fn service<I>(journal: Option<(Few, Vec<RecordedStep>)>, input: I) -> Service<Few, I, OneFile>
     ensures { result.cache ≡ 64 }
 {
     Service {
@@ -110,7 +110,7 @@ fn served<R: AllocGlobal + Threads + Sync>(rt: &R, input: &[u8]) -> (ServeEnd, V
 /// The same, with this journal and its steps, if there is one.
 fn served_by<R: AllocGlobal + Threads + Sync>(
     rt: &R,
-    journal: Option<(Few, Vec<Step>)>,
+    journal: Option<(Few, Vec<RecordedStep>)>,
     input: &[u8],
 ) -> (ServeEnd, Vec<u8>) {
     let mut output = Vec::new(rt.alloc());

@@ -8,7 +8,7 @@ use cli::{run, run_on};
 use console_io::file_saving::{Saving, Unsaved};
 use console_io::{Console, Directory, Ended, Inputs, PrintFault, Status};
 use failure_reasons::Explain;
-use session_journal::{JournalFault, Journals, SessionFile, Step};
+use session_journal::{JournalFault, Journals, RecordedStep, SessionFile};
 use std::alloc::{AllocError, Global};
 use std::io;
 use std::io::{ErrorKind, Read};
@@ -70,7 +70,7 @@ impl Journals for Folder {
         &self,
         _alloc: Global,
         name: &str,
-    ) -> Result<(SessionFile, Vec<Step>), JournalFault> {
+    ) -> Result<(SessionFile, Vec<RecordedStep>), JournalFault> {
         if name == "a.264" {
             return Err(JournalFault::NotAJournal);
         }
@@ -602,7 +602,7 @@ fn cuts_errors(
     words: &[&str],
     status: Status,
     message: &[u8],
-    room: usize,
+    capacity: usize,
 ) -> bool {
     let standard: &[u8] = b"unit 1\nunit\n";
     let inputs = Inputs {
@@ -611,13 +611,13 @@ fn cuts_errors(
     };
     let mut console = Console {
         output: Vec::new(rt.alloc()),
-        errors: ShortWriter::new(rt.alloc(), 5, room, End::Fails),
+        errors: ShortWriter::new(rt.alloc(), 5, capacity, End::Fails),
     };
     let ended = run_on(rt, rt.alloc(), words, inputs, &mut console);
     let told = Err(PrintFault::Unwritten);
     ended == Ended { status, told }
         && console.output.is_empty()
-        && console.errors.got.as_slice() == message.split_at(room.min(message.len())).0
+        && console.errors.got.as_slice() == message.split_at(capacity.min(message.len())).0
 }
 
 /// The words of a run that fails, and what is told of it.
@@ -632,9 +632,9 @@ const MESSAGES: [(&[&str], &str); 5] = [
 #[test]
 fn cuts_what_is_told(rt: HostRuntime) {
     for (words, message) in MESSAGES {
-        for room in 0..message.len() {
-            let cuts = cuts_errors(&rt, words, Failure, message.as_bytes(), room);
-            row_holds(&rt, room, cuts);
+        for capacity in 0..message.len() {
+            let cuts = cuts_errors(&rt, words, Failure, message.as_bytes(), capacity);
+            row_holds(&rt, capacity, cuts);
         }
     }
 }
@@ -645,7 +645,7 @@ fn fails_cut(
     rt: &(impl Abort + AllocGlobal + Threads + Wait + Sync),
     words: &[&str],
     text: &[u8],
-    room: usize,
+    capacity: usize,
     end: End,
 ) -> bool {
     let standard: &[u8] = &[];
@@ -654,14 +654,14 @@ fn fails_cut(
         standard,
     };
     let mut console = Console {
-        output: ShortWriter::new(rt.alloc(), usize::MAX, room, end),
+        output: ShortWriter::new(rt.alloc(), usize::MAX, capacity, end),
         errors: Vec::new(rt.alloc()),
     };
     let ended = run_on(rt, rt.alloc(), words, inputs, &mut console);
     let (status, told) = (Failure, Ok(()));
     ended == Ended { status, told }
         && console.errors.is_empty()
-        && console.output.got.as_slice() == text.split_at(room.min(text.len())).0
+        && console.output.got.as_slice() == text.split_at(capacity.min(text.len())).0
 }
 
 /// Whether the words' answer fails on each output that takes less than all of it.
@@ -671,9 +671,9 @@ fn fails_where_cut(
 ) -> Result<bool, AllocError> {
     let got = run_with(rt, words, &[])?;
     let (all, text) = (named(rt.alloc(), words)?, got.output.as_slice());
-    for room in 0..text.len() {
-        let is_failure = fails_cut(rt, all.as_slice(), text, room, End::Fails)
-            && fails_cut(rt, all.as_slice(), text, room, End::TakesNone);
+    for capacity in 0..text.len() {
+        let is_failure = fails_cut(rt, all.as_slice(), text, capacity, End::Fails)
+            && fails_cut(rt, all.as_slice(), text, capacity, End::TakesNone);
         if !is_failure {
             return Ok(false);
         }

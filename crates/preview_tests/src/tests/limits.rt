@@ -15,10 +15,10 @@ use std::thread::Threads;
 fn units_read(
     rt: &(impl Abort + AllocGlobal + Threads + Sync),
     count: u32,
-    room: usize,
+    capacity: usize,
 ) -> Result<Result<usize, ReadFault>, AllocError> {
     let text = repeated(rt.alloc(), &P1, count)?;
-    match read_units(rt, rt.alloc(), &Bytes::from_vec(text)?, room) {
+    match read_units(rt, rt.alloc(), &Bytes::from_vec(text)?, capacity) {
         Ok(units) => Ok(Ok(units.len())),
         Err(fault) => Ok(Err(fault)),
     }
@@ -40,9 +40,9 @@ const ROOMS: [(u32, usize, Result<usize, ReadFault>); 9] = [
 ];
 
 #[test]
-fn reads_as_many_units_as_there_is_room_for(rt: HostRuntime) -> Result<(), Fail> {
-    for (row, (count, room, read)) in ROOMS.iter().enumerate() {
-        row_holds(&rt, row, units_read(&rt, *count, *room)? == *read);
+fn reads_as_many_units_as_there_is_capacity_for(rt: HostRuntime) -> Result<(), Fail> {
+    for (row, (count, capacity, read)) in ROOMS.iter().enumerate() {
+        row_holds(&rt, row, units_read(&rt, *count, *capacity)? == *read);
     }
     Ok(())
 }

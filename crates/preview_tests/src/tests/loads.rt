@@ -164,7 +164,7 @@ request 2101.0 ts 2101000 bits 25 type 2 frame 0 dpb - l0 - l1 - hold 0\n",
 
 /// 65,536 units after one that is there are too many.
 #[test]
-fn refuses_more_units_than_there_is_room_for(rt: HostRuntime) -> Result<(), Fail> {
+fn refuses_more_units_than_there_is_capacity_for(rt: HostRuntime) -> Result<(), Fail> {
     let stream = repeated(rt.alloc(), &P1, 65_536)?;
     let script = texts(rt.alloc(), &[INSERT_A, "load stream\nunit 2\n"])?;
     let lines = b"edit 1 id 1\nrefused 17 StreamFull\nunit 2 none\n";

@@ -26,8 +26,8 @@ unit 2 position 1 counts 2 2 requests 1\n\
 request 2.0 ts 2000 bits 23 type 0 frame 1 dpb 1000:0:3 l0 0 l1 - hold 0\n";
 
 /// The bytes of a room that a writer has written, where so many are left.
-fn front(room: &[u8], left: usize) -> &[u8] {
-    room.split_at(room.len().saturating_sub(left)).0
+fn front(capacity: &[u8], left: usize) -> &[u8] {
+    capacity.split_at(capacity.len().saturating_sub(left)).0
 }
 
 /// Whether it ended so and wrote this, or memory ran out, told of, and nothing printed.

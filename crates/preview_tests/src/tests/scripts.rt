@@ -6,7 +6,7 @@ use Status::{Failure, Success};
 use bytes::Bytes;
 use console_io::{Console, Ended, InputFault, Source, Status};
 use script_run::{Options, script_on};
-use stand_in_session::{Config, Edit, Place, Session};
+use stand_in_session::{Config, Edit, InsertionPoint, Session};
 use std::alloc::{AllocError, Global};
 use std::process::Abort;
 use std::test::Fail;
@@ -352,18 +352,18 @@ fn gets(
     rt: &(impl Abort + AllocGlobal + Threads + Sync),
     script: &[u8],
     lines: &[u8],
-    room: usize,
+    capacity: usize,
     status: Status,
     asked: usize,
 ) -> bool {
     let mut console = Console {
-        output: ShortWriter::new(rt.alloc(), usize::MAX, room, End::Fails),
+        output: ShortWriter::new(rt.alloc(), usize::MAX, capacity, End::Fails),
         errors: Vec::new(rt.alloc()),
     };
     let told = Ok(());
     run_to(rt, script, &mut console) == (Ended { status, told }, asked)
         && console.errors.is_empty()
-        && console.output.got.as_slice() == lines.split_at(room.min(lines.len())).0
+        && console.output.got.as_slice() == lines.split_at(capacity.min(lines.len())).0
 }
 
 /// A unit is deleted and repaired, and the last command loads a file; and the lines of that.
@@ -390,13 +390,17 @@ fn ends_where_the_writer_fails(rt: HostRuntime) -> Result<(), Fail> {
     );
     let (script, lines) = (script.as_bytes(), lines.as_bytes());
     assert!(rt; gets(&rt, script, lines, lines.len(), Success, 1));
-    for room in 0..lines.len() {
-        let asked = if room.saturating_add(9) >= lines.len() {
+    for capacity in 0..lines.len() {
+        let asked = if capacity.saturating_add(9) >= lines.len() {
             1
         } else {
             0
         };
-        row_holds(&rt, room, gets(&rt, script, lines, room, Failure, asked));
+        row_holds(
+            &rt,
+            capacity,
+            gets(&rt, script, lines, capacity, Failure, asked),
+        );
     }
     Ok(())
 }
@@ -406,7 +410,7 @@ fn ends_where_the_writer_fails(rt: HostRuntime) -> Result<(), Fail> {
 fn edits_by_the_library(rt: HostRuntime) -> Result<(), Fail> {
     let mut session = Session::new(rt.alloc(), Config { cache: 64 })?;
     let text = Bytes::from_vec(Vec::from_slice(rt.alloc(), &A)?)?;
-    let receipt = session.edit(Edit::Insert(Place::First, text))?;
+    let receipt = session.edit(Edit::Insert(InsertionPoint::First, text))?;
     match session.outcome(receipt.id)? {
         Outcome::Plan(plan) => assert_eq!(rt; plan.requests.as_slice().len(), 1),
         Outcome::Fault(fault) => panic!(rt; "unit {} shows {fault}", receipt.id.number()),

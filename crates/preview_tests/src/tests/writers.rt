@@ -27,18 +27,18 @@ pub(super) enum End {
 pub(super) struct ShortWriter {
     pub(super) got: Vec<u8>,
     at_a_time: usize,
-    room: usize,
+    capacity: usize,
     end: End,
     has_refused: bool,
 }
 
 impl ShortWriter {
     /// A writer with this room, which has got nothing.
-    pub(super) fn new(alloc: Global, at_a_time: usize, room: usize, end: End) -> ShortWriter {
+    pub(super) fn new(alloc: Global, at_a_time: usize, capacity: usize, end: End) -> ShortWriter {
         ShortWriter {
             got: Vec::new(alloc),
             at_a_time,
-            room,
+            capacity,
             end,
             has_refused: false,
         }
@@ -47,17 +47,17 @@ impl ShortWriter {
 
 impl Write for ShortWriter {
     fn write(&mut self, buf: &[u8]) -> io::Result<usize> {
-        let count = buf.len().min(self.at_a_time).min(self.room);
+        let count = buf.len().min(self.at_a_time).min(self.capacity);
         if count > 0 {
             self.got.extend_from_slice(&buf[..count])?;
-            self.room -= count;
+            self.capacity -= count;
             return Ok(count);
         }
         match self.end {
             End::Fails => Err(io::Error::from(ErrorKind::BrokenPipe)),
             End::TakesNone => Ok(0),
             End::IsInterrupted => {
-                self.room = usize::MAX;
+                self.capacity = usize::MAX;
                 Err(io::Error::from(ErrorKind::Interrupted))
             }
         }
@@ -103,10 +103,10 @@ fn writes_front(
     text: &[u8],
     lines: &[u8],
     at_a_time: usize,
-    room: usize,
+    capacity: usize,
 ) -> bool {
-    let front = lines.split_at(room.min(lines.len())).0;
-    let to = |end: End| ShortWriter::new(rt.alloc(), at_a_time, room, end);
+    let front = lines.split_at(capacity.min(lines.len())).0;
+    let to = |end: End| ShortWriter::new(rt.alloc(), at_a_time, capacity, end);
     gets(rt, text, to(End::Fails), Status::Failure, front)
         && gets(rt, text, to(End::TakesNone), Status::Failure, front)
         && gets(rt, text, to(End::IsInterrupted), Status::Success, lines)
@@ -122,8 +122,12 @@ fn writes_the_front_that_a_writer_takes(rt: HostRuntime) -> Result<(), Fail> {
     for at_a_time in AT_A_TIME {
         let enough = ShortWriter::new(rt.alloc(), at_a_time, usize::MAX, End::Fails);
         assert!(rt; gets(&rt, &text, enough, Status::Success, &lines));
-        for room in 0..lines.len() {
-            row_holds(&rt, room, writes_front(&rt, &text, &lines, at_a_time, room));
+        for capacity in 0..lines.len() {
+            row_holds(
+                &rt,
+                capacity,
+                writes_front(&rt, &text, &lines, at_a_time, capacity),
+            );
         }
     }
     Ok(())

@@ -8,9 +8,9 @@ use std::alloc::{AllocError, Global};
 use std::process::Abort;
 use std::test::Fail;
 use stream_svg::{
-    Caption, DrawnUnit, EditMark, Kind, Layout, Picture, PictureState, Point, Rect, RefList,
-    Reference, Shown, SliceTypes, arc_of, boxes_are_apart, document, escapes_are_read_back,
-    lay_out, push_escaped,
+    Caption, DrawnPicture, DrawnReference, DrawnUnit, EditMark, Layout, OutputUnit, PictureState,
+    Point, Rect, RefList, SliceTypes, UnitKind, arc_of, boxes_are_apart, document,
+    escapes_are_read_back, lay_out, push_escaped,
 };
 use unit_outcomes::ValidityFault;
 
@@ -34,24 +34,24 @@ const B: SliceTypes = SliceTypes {
 
 /// What the five units are drawn as: an I, a P and a B picture, which is output before the P
 /// picture, a fault, and a unit without a picture.
-const KINDS: [Kind; 5] = [
-    Kind::Picture(Picture {
+const KINDS: [UnitKind; 5] = [
+    UnitKind::Picture(DrawnPicture {
         types: I,
         position: 0,
         begins_period: true,
     }),
-    Kind::Picture(Picture {
+    UnitKind::Picture(DrawnPicture {
         types: P,
         position: 2,
         begins_period: false,
     }),
-    Kind::Picture(Picture {
+    UnitKind::Picture(DrawnPicture {
         types: B,
         position: 1,
         begins_period: false,
     }),
-    Kind::Fault(ValidityFault::FrameNumGap),
-    Kind::Empty,
+    UnitKind::Fault(ValidityFault::FrameNumGap),
+    UnitKind::Empty,
 ];
 
 /// What edits did to the five units: the first one's picture stayed, the second one is altered, and so
@@ -104,11 +104,11 @@ fn units(alloc: Global) -> Result<Vec<DrawnUnit>, AllocError> {
 }
 
 /// The frames that the lists of the unit at a place name.
-fn references(alloc: Global, place: usize) -> Result<Vec<Reference>, AllocError> {
+fn references(alloc: Global, place: usize) -> Result<Vec<DrawnReference>, AllocError> {
     let mut references = Vec::new(alloc);
     for (at, list, frame, long_term) in REFERENCES.iter() {
         if *at == place {
-            references.push(Reference {
+            references.push(DrawnReference {
                 list: *list,
                 frame: AuId::new(*frame),
                 long_term: *long_term,
@@ -168,17 +168,17 @@ fn rows(rt: HostRuntime) -> Result<(), Fail> {
     let units = units(rt.alloc())?;
     let layout = layout_of(rt.alloc(), &units)?;
     let shown = [
-        Shown {
+        OutputUnit {
             position: 0,
             place: 0,
             period: 1,
         },
-        Shown {
+        OutputUnit {
             position: 1,
             place: 2,
             period: 1,
         },
-        Shown {
+        OutputUnit {
             position: 2,
             place: 1,
             period: 1,

@@ -13,7 +13,7 @@ fn unit_text(alloc: Global, id: u32, outcome: &Outcome) -> Result<String, AllocE
         in_doubt: false,
     };
     let mode = DecodeMode::SliceBased;
-    let line = JsonLine::of_told(alloc, mode, AuId::new(id), None, outcome, untold)?;
+    let line = JsonLine::of_unit(alloc, mode, AuId::new(id), None, outcome, untold)?;
     Json.encode(alloc, &line)
 }
 

@@ -25,9 +25,9 @@ const A: &[u8] = &[
 ];
 
 /// The parts that a file begins with, and its kind.
-type Kind = (&'static [&'static [u8]], FileKind);
+type UnitKind = (&'static [&'static [u8]], FileKind);
 
-const KINDS: [Kind; 38] = [
+const KINDS: [UnitKind; 38] = [
     (
         &[b"\x00\x00\x00\x18ftypisom\x00\x00\x02\x00isommp41"],
         FileKind::Mp4,
@@ -162,7 +162,7 @@ const KINDS: [Kind; 38] = [
 ];
 
 /// Whether the row's file is of its kind.
-fn kind_holds(alloc: Global, row: &Kind) -> Result<bool, AllocError> {
+fn kind_holds(alloc: Global, row: &UnitKind) -> Result<bool, AllocError> {
     Ok(kind_of(&joined(alloc, row.0)?) == row.1)
 }
 

@@ -1,23 +1,48 @@
 //! `preview audit`: a script read and run by a seat while workers decode, and the seat's book held
 //! against the journal.
 
-ghost use Rattle.std.specs.Prelude.{◌≡◌, ◌≢◌, ◌≤◌, IfErr, IfOk, IfSome, length};
+ghost use Rattle.std.specs.Prelude.{◌≡◌, ◌≢◌, ◌≤◌, IfErr, IfOk, IfSome, length, Some};
 ghost use Rattle.std.specs.Io.KnownBytes.{Keeps};
 ghost use Rattle.script_run.specs.Audits.{EndsAudit, FailsAudit, IsAudited, StopsAudit, WritesAgreed, WritesVerdict};
 ghost use Rattle.script_run.specs.SharedStops.{StopsText};
+ghost use Rattle.script_run.specs.Verdicts.{verdict_line};
 
 use crate::shared::ending::end;
 use crate::shared::nowhere::Nowhere;
-use crate::shared::opening::devices;
-use crate::shared::run::run_text;
-use crate::shared::verdict::Verdict;
+use crate::shared::run::{devices, run_text};
 use crate::{Options, RunFault, Script, say_run_fault};
 use console_io::{Console, Ended, Sink, Source, Status, whole_input, write_bytes};
 use decode_pool::Gate;
 use std::alloc::Global;
+use std::fmt;
+use std::fmt::{Display, Formatter, Write};
 use std::io::Read;
 use std::sync::Wait;
 use std::thread::Threads;
+
+/// What the audit of a seat's book comes to, and the line that says so (docs/OUTPUT.md).
+#[derive(Clone, Copy, Debug, Drop)]
+pub(crate) enum Verdict {
+    /// Each receipt agrees with the journal: so many of edits, and so many of units that were
+    /// shown.
+    Agreed { edits: usize, shows: usize },
+    /// The receipt of this number is the first that doesn't, in the book of this seat. Both are
+    /// counted from 1.
+    Disagrees { seat: usize, number: usize },
+}
+
+impl Display for Verdict {
+    ghost output = { λ verdict. Some (verdict_line verdict) };
+
+    fn fmt<W: Write>(&self, f: &mut Formatter<W>) -> fmt::Result {
+        match self {
+            Verdict::Agreed { edits, shows } => writeln!(f, "agreed {edits} edits {shows} shows"),
+            Verdict::Disagrees { seat, number } => {
+                writeln!(f, "disagrees seat {seat} receipt {number}")
+            }
+        }
+    }
+}
 
 /// Audits the script as `audit_with` does, by so many workers with a device each.
 pub fn audit_with_workers<R, I, S, W, E>(

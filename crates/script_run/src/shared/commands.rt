@@ -1,13 +1,12 @@
 //! The commands of a script, run by a seat one after the other.
 
-ghost use Rattle.std.specs.Prelude.{◌≡◌, ℕ, List, IfErr, IfOk, OnOk, string_bytes};
+ghost use Rattle.std.specs.Prelude.{◌≡◌, ℕ, List, IfErr, IfOk, OnOk, string_bytes, Some};
 ghost use Rattle.script_run.specs.SharedRunning.{Answers, Drops, Edits, EditsGroup, Settles, SettlesFor, ShowsLine, WritesRun};
 ghost use Rattle.script_run.specs.SharedStops.{IsCommandFault, StopsAt};
-ghost use Rattle.script_run.specs.WantedLines.{rest_line, want_line};
+ghost use Rattle.script_run.specs.WantedLines.{rest_line, want_line, wanted_line};
 ghost use Rattle.script_run.specs.JobLines.{cleared_line};
 
 use crate::shared::loading::load;
-use crate::shared::wanted_lines::WantedLine;
 use crate::{
     AcceptedLine, DroppedLine, GroupLine, GroupRefusedLine, RefusedLine, RunFault, shown_line,
 };
@@ -17,6 +16,8 @@ use edit_script::{SeatCommand, id_of_number};
 use h264_types::pictures::AuId;
 use stand_in_session::Edit;
 use std::alloc::{AllocError, Global};
+use std::fmt;
+use std::fmt::{Display, Formatter, Write};
 use std::sync::Wait;
 use std::thread::Threads;
 
@@ -213,5 +214,18 @@ fn set_rest<R: Wait>(
     match rest {
         true => String::from_str(alloc, "rest on\n"),
         false => String::from_str(alloc, "rest off\n"),
+    }
+}
+
+/// The line of so many ids that are wanted first.
+#[derive(Drop)]
+pub(crate) struct WantedLine(pub(crate) usize);
+
+impl Display for WantedLine {
+    ghost output = { λ line. Some (wanted_line line.0) };
+
+    fn fmt<W: Write>(&self, f: &mut Formatter<W>) -> fmt::Result {
+        let count = self.0;
+        writeln!(f, "wanted {count}")
     }
 }

@@ -4,7 +4,7 @@ ghost use Rattle.std.specs.Prelude.{◌≡◌, ◌+◌, IfOk, count_by, length};
 ghost use Rattle.decode_pool.specs.Finishing.{is_edit};
 ghost use Rattle.script_run.specs.Verdicts.{IsVerdict, is_show};
 
-use crate::shared::verdict::Verdict;
+use crate::shared::audit::Verdict;
 use decode_pool::{Desk, FinishFault, Seat, finish};
 use seat_books::{SeatBook, SeatReceipt};
 use std::alloc::{AllocError, Global};

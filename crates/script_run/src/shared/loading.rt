@@ -38,8 +38,8 @@ pub(crate) fn load<'a, R: Threads + Wait + Sync, S: Source>(
     ensures named { IfErr result (IsLoadFault path.entry) }
 {
     let text = shared_file(alloc, path, source)?;
-    let room = MOST_UNITS.saturating_sub(seat.last(rt, desk).units);
-    match read_units(rt, alloc, &text, room) {
+    let capacity = MOST_UNITS.saturating_sub(seat.last(rt, desk).units);
+    match read_units(rt, alloc, &text, capacity) {
         Ok(units) => {
             let units = hash_units(rt, alloc, units)?;
             Ok(insert_all(rt, alloc, desk, seat, units)?)

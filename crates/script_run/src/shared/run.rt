@@ -6,17 +6,18 @@ ghost use Rattle.std.specs.Io.KnownBytes.{Keeps};
 ghost use Rattle.console_io.specs.Messages.{Tells};
 ghost use Rattle.script_run.specs.Messages.{run_fault_text};
 ghost use Rattle.script_run.specs.declared.run_fault.RunFault.{RunFault};
-ghost use Rattle.script_run.specs.SharedRunning.{WritesScript, WritesScriptTo};
+ghost use Rattle.script_run.specs.SharedRunning.{WritesScript, WritesScriptTo, IsNew};
 ghost use Rattle.script_run.specs.SharedStops.{StopsBy, StopsText};
 
 use crate::shared::commands::Interpreter;
-use crate::shared::opening::{devices, open};
 use crate::shared::threads::{Pool, run_beside};
 use crate::{Options, RunFault, Script, say_run_fault};
 use console_io::{Console, Ended, Sink, Source, Status, say_out_of_memory, whole_input};
 use decode_pool::{Desk, Gate, Seat};
 use edit_script::read_seat_script;
-use std::alloc::Global;
+use stand_in_device::Device;
+use stand_in_session::Config;
+use std::alloc::{AllocError, Global};
 use std::io::Read;
 use std::sync::Wait;
 use std::thread::Threads;
@@ -135,7 +136,7 @@ where
         (W.contents writer.old) (W.contents writer.new)) }
     ensures seats { IfOk result (λ ended. (ended.0.seats ≡ 1) × (ended.1.number ≡ 1)) }
     // The desk has the room that is asked for, and as many workers as there are gates.
-    ensures room { IfOk result (λ ended. ended.0.room ≡ options.entry.cache) }
+    ensures capacity { IfOk result (λ ended. ended.0.cache ≡ options.entry.cache) }
     ensures workers { IfOk result (λ ended. ended.0.workers ≡ length gates.items) }
     ensures stops { IfErr result (λ fault. StopsText
         (S.file script.entry.files) script.entry.text.now options.entry.hex fault
@@ -151,4 +152,31 @@ where
         Ok(()) => Ok((ran.desk, ran.seat)),
         Err(fault) => Err(fault),
     }
+}
+
+/// A desk with an empty stream for so many workers, and its one seat.
+pub(crate) fn open(alloc: Global, cache: u16, workers: usize) -> Result<(Desk, Seat), AllocError>
+    requires cache { (1 ≤ cache) × (cache ≤ 4096) }
+    requires workers { (1 ≤ workers) × (workers ≤ 64) }
+    ensures capacity { IfOk result (λ opened. opened.0.cache ≡ cache) }
+    ensures workers { IfOk result (λ opened. opened.0.workers ≡ workers) }
+    ensures seats { IfOk result (λ opened. opened.0.seats ≡ 1) }
+    ensures new { IfOk result (λ opened. IsNew opened.1) }
+{
+    let (desk, mut seats) = Desk::open(alloc, Config { cache }, workers, 1)?;
+    match seats.pop() {
+        Some(seat) => Ok((desk, seat)),
+        None => unreachable!(),
+    }
+}
+
+/// So many devices.
+pub(crate) fn devices(alloc: Global, count: usize) -> Result<Vec<Device>, AllocError>
+    ensures { IfOk result (λ made. length made.items ≡ count) }
+{
+    let mut made = Vec::with_capacity(alloc, count)?;
+    for _ in 0..count {
+        made.push(Device::new(alloc))?;
+    }
+    Ok(made)
 }

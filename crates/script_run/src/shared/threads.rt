@@ -46,7 +46,7 @@ where
     S: Source + Drop,
     W: Sink,
     ensures seats { result.desk.seats ≡ pool.desk.seats }
-    ensures room { result.desk.room ≡ pool.desk.room }
+    ensures capacity { result.desk.cache ≡ pool.desk.cache }
     ensures workers { result.desk.workers ≡ pool.desk.workers }
     ensures ok { OnOk result.result
         (WritesRun (S.file interpreter.files) interpreter.hex interpreter.seat

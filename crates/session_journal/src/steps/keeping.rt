@@ -2,17 +2,17 @@
 
 ghost use Rattle.std.specs.Prelude.{◌≡◌, ◌+◌, ◌≤◌, ◌^◌, ℕ, List, [], ◌∷◌, ◌++◌, None, length, map, IfOk, IfSome, OnOk};
 ghost use Rattle.edit_journal.specs.Lines.{lines_of};
-ghost use Rattle.session_journal.specs.declared.steps.step.Step.{Step as StepValue};
-ghost use Rattle.session_journal.specs.declared.steps.step.Step.TheVariants.{Edits, Load, Snapshot as SnapshotStep};
-ghost use Rattle.session_journal.specs.Kept.{given_after, given_after_edits, given_by_step, kept_of, kept_of_edits, kept_of_given, kept_of_load, kept_of_step, kept_of_unit};
+ghost use Rattle.session_journal.specs.declared.steps.step.RecordedStep.{RecordedStep as StepValue};
+ghost use Rattle.session_journal.specs.declared.steps.step.RecordedStep.TheVariants.{Edits, Load, Snapshot as SnapshotStep};
+ghost use Rattle.session_journal.specs.RecordRows.{given_after, given_after_edits, given_by_step, row_of, rows_of_edits, row_of_given, row_of_load, rows_of_step, row_of_unit};
 ghost use Rattle.session_journal.specs.Records.{given_by_steps, lines_of_steps};
 
 use bytes::Bytes;
-use edit_journal::{Kind, Step as Kept};
+use edit_journal::{Kind, RowStep};
 use h264_types::pictures::AuId;
 use std::alloc::{AllocError, Global};
 use stream_edits::snapshots::Snapshot;
-use stream_edits::{Edit, Place};
+use stream_edits::{Edit, InsertionPoint};
 
 /// How many ids were given, with that of the edit. Nothing where no id is left.
 fn given_after(given: u32, edit: &Edit) -> Option<u32>
@@ -26,30 +26,30 @@ fn given_after(given: u32, edit: &Edit) -> Option<u32>
 }
 
 /// What is kept of an edit after which so many ids were given.
-fn kept_of(after: u32, edit: &Edit) -> Result<Kept, AllocError>
+fn row_of(after: u32, edit: &Edit) -> Result<RowStep, AllocError>
     ensures { IfOk result (λ kept. (given : ℕ) → after ≡ given_after given edit.now
-        → kept ≡ kept_of given edit.now) }
+        → kept ≡ row_of given edit.now) }
 {
     match edit {
-        Edit::Insert(Place::First, text) => Ok(Kept {
+        Edit::Insert(InsertionPoint::First, text) => Ok(RowStep {
             kind: Kind::InsertFirst,
             id: after,
             named: 0,
             text: text.clone()?,
         }),
-        Edit::Insert(Place::After(id), text) => Ok(Kept {
+        Edit::Insert(InsertionPoint::After(id), text) => Ok(RowStep {
             kind: Kind::Insert,
             id: after,
             named: id.number(),
             text: text.clone()?,
         }),
-        Edit::Delete(id) => Ok(Kept {
+        Edit::Delete(id) => Ok(RowStep {
             kind: Kind::Delete,
             id: id.number(),
             named: 0,
             text: Bytes::new(),
         }),
-        Edit::Replace(id, text) => Ok(Kept {
+        Edit::Replace(id, text) => Ok(RowStep {
             kind: Kind::Replace,
             id: id.number(),
             named: 0,
@@ -59,9 +59,13 @@ fn kept_of(after: u32, edit: &Edit) -> Result<Kept, AllocError>
 }
 
 /// Adds what is kept of edits, and answers how many ids were given then. Nothing where ids run out.
-fn keep_edits(given: u32, edits: &[Edit], kept: &mut Vec<Kept>) -> Result<Option<u32>, AllocError>
+fn keep_edits(
+    given: u32,
+    edits: &[Edit],
+    kept: &mut Vec<RowStep>,
+) -> Result<Option<u32>, AllocError>
     ensures kept { IfOk result (λ after. IfSome after (λ _.
-        kept.new.items ≡ kept.old.items ++ kept_of_edits given edits.now)) }
+        kept.new.items ≡ kept.old.items ++ rows_of_edits given edits.now)) }
     ensures after { IfOk result (λ after. IfSome after (λ after.
         after ≡ given_after_edits given edits.now)) }
     ensures none { IfOk result (λ after. after ≡ None
@@ -72,17 +76,17 @@ fn keep_edits(given: u32, edits: &[Edit], kept: &mut Vec<Kept>) -> Result<Option
         let Some(more) = given_after(after, edit) else {
             return Ok(None);
         };
-        kept.push(kept_of(more, edit)?)?;
+        kept.push(row_of(more, edit)?)?;
         after = more;
     }
     Ok(Some(after))
 }
 
 /// What is kept in front of a load's edits.
-fn load_mark() -> Kept
-    ensures { result ≡ kept_of_load }
+fn load_mark() -> RowStep
+    ensures { result ≡ row_of_load }
 {
-    Kept {
+    RowStep {
         kind: Kind::Load,
         id: 0,
         named: 0,
@@ -97,9 +101,9 @@ pub fn keep_group(
     alloc: Global,
     given: u32,
     edits: &[Edit],
-) -> Result<Option<(Vec<Kept>, u32)>, AllocError>
+) -> Result<Option<(Vec<RowStep>, u32)>, AllocError>
     ensures kept { IfOk result (λ kept. IfSome kept (λ kept.
-        kept.0.items ≡ kept_of_step given (Edits edits.now))) }
+        kept.0.items ≡ rows_of_step given (Edits edits.now))) }
     ensures after { IfOk result (λ kept. IfSome kept (λ kept.
         kept.1 ≡ given_by_step given (Edits edits.now))) }
     ensures none { IfOk result (λ kept. kept ≡ None
@@ -120,9 +124,9 @@ pub fn keep_load(
     alloc: Global,
     given: u32,
     edits: &[Edit],
-) -> Result<Option<(Vec<Kept>, u32)>, AllocError>
+) -> Result<Option<(Vec<RowStep>, u32)>, AllocError>
     ensures kept { IfOk result (λ kept. IfSome kept (λ kept.
-        kept.0.items ≡ kept_of_step given (Load edits.now))) }
+        kept.0.items ≡ rows_of_step given (Load edits.now))) }
     ensures after { IfOk result (λ kept. IfSome kept (λ kept.
         kept.1 ≡ given_by_step given (Load edits.now))) }
     ensures none { IfOk result (λ kept. kept ≡ None
@@ -140,10 +144,10 @@ pub fn keep_load(
 }
 
 /// What is kept of a unit of a snapshot.
-fn kept_of_unit(unit: &(AuId, Bytes)) -> Result<Kept, AllocError>
-    ensures { IfOk result (λ kept. kept ≡ kept_of_unit unit.now) }
+fn row_of_unit(unit: &(AuId, Bytes)) -> Result<RowStep, AllocError>
+    ensures { IfOk result (λ kept. kept ≡ row_of_unit unit.now) }
 {
-    Ok(Kept {
+    Ok(RowStep {
         kind: Kind::Unit,
         id: unit.0.number(),
         named: 0,
@@ -152,10 +156,10 @@ fn kept_of_unit(unit: &(AuId, Bytes)) -> Result<Kept, AllocError>
 }
 
 /// What is kept behind the units of a snapshot where so many ids were given.
-fn given_mark(ids_given: u32) -> Kept
-    ensures { result ≡ kept_of_given ids_given }
+fn given_mark(ids_given: u32) -> RowStep
+    ensures { result ≡ row_of_given ids_given }
 {
-    Kept {
+    RowStep {
         kind: Kind::Given,
         id: ids_given,
         named: 0,
@@ -164,11 +168,11 @@ fn given_mark(ids_given: u32) -> Kept
 }
 
 /// Adds what is kept of the units of a snapshot.
-fn keep_units(units: &[(AuId, Bytes)], kept: &mut Vec<Kept>) -> Result<(), AllocError>
-    ensures { OnOk result (kept.new.items ≡ kept.old.items ++ map kept_of_unit units.now) }
+fn keep_units(units: &[(AuId, Bytes)], kept: &mut Vec<RowStep>) -> Result<(), AllocError>
+    ensures { OnOk result (kept.new.items ≡ kept.old.items ++ map row_of_unit units.now) }
 {
     for unit in units {
-        kept.push(kept_of_unit(unit)?)?;
+        kept.push(row_of_unit(unit)?)?;
     }
     Ok(())
 }
@@ -176,9 +180,9 @@ fn keep_units(units: &[(AuId, Bytes)], kept: &mut Vec<Kept>) -> Result<(), Alloc
 /// What a record keeps of a snapshot, however many ids were given before it. A journal of steps that
 /// is appended it has the lines of those steps and this one; one that is written anew with it alone has
 /// its lines.
-pub fn keep_snapshot(alloc: Global, snapshot: &Snapshot) -> Result<Vec<Kept>, AllocError>
+pub fn keep_snapshot(alloc: Global, snapshot: &Snapshot) -> Result<Vec<RowStep>, AllocError>
     ensures kept { (given : ℕ) → IfOk result (λ kept.
-        kept.items ≡ kept_of_step given (SnapshotStep snapshot.now)) }
+        kept.items ≡ rows_of_step given (SnapshotStep snapshot.now)) }
     ensures added { (steps : List StepValue) → IfOk result (λ kept.
         lines_of_steps 0 1 (steps ++ SnapshotStep snapshot.now ∷ [])
         ≡ lines_of_steps 0 1 steps ++ lines_of (length steps + 1) kept.items) }

@@ -1,23 +1,25 @@
 //! Steps are read from the lines of a journal.
 
-ghost use Rattle.std.specs.Prelude.{◌≡◌, ◌<◌, ◌≤◌, ◌↔◌, ℕ, List, [], ◌∷◌, Some, length, take, drop, true, IfOk, IfSome, IsSome};
+ghost use Rattle.std.specs.Prelude.{◌≡◌, ◌<◌, ◌≤◌, ◌↔◌, ℕ, List, [], ◌∷◌, Some, length, take, drop, true, IfOk, IfSome, IsSome, ◌++◌};
 ghost use Rattle.std.specs.List.{AllByRecursion};
 ghost use Rattle.stream_edits.specs.declared.edits.Edit.{Edit as EditValue};
-ghost use Rattle.session_journal.specs.declared.steps.step.Step.{Step as StepValue};
-ghost use Rattle.session_journal.specs.declared.steps.step.Step.TheVariants.{Edits, Load, Snapshot};
-ghost use Rattle.session_journal.specs.Kept.{IsReadFrom, IsStep, given_by_step, kept_of_step};
-ghost use Rattle.session_journal.specs.Records.{given_by_steps, kept_in, lines_of_steps};
+ghost use Rattle.session_journal.specs.declared.steps.step.RecordedStep.{RecordedStep as StepValue};
+ghost use Rattle.session_journal.specs.declared.steps.step.RecordedStep.TheVariants.{Edits, Load, Snapshot};
+ghost use Rattle.session_journal.specs.RecordRows.{IsReadFrom, IsStep, given_by_step, rows_of_step};
+ghost use Rattle.session_journal.specs.Records.{given_by_steps, rows_in, lines_of_steps, AreOf, BeginOther};
 ghost use Rattle.stream_edits.specs.Snapshots.{SnapshotValue};
+ghost use Rattle.edit_journal.specs.declared.line.Line.{Line as LineValue};
+ghost use Rattle.edit_journal.specs.declared.line.RowStep.{RowStep};
+ghost use Rattle.edit_journal.specs.Lines.{lines_of};
 
-use crate::steps::lines::lines_in;
 use crate::steps::reading_edits::read_edits;
 use crate::steps::reading_units::read_snapshot;
-use crate::steps::step::Step;
-use edit_journal::{Kind, Line, Step as Kept};
+use crate::steps::step::RecordedStep;
+use edit_journal::{Kind, Line, RowStep};
 use std::alloc::{AllocError, Global};
 
 /// Whether nothing is kept but a kind and an id.
-fn is_mark(kept: &Kept) -> bool
+fn is_mark(kept: &RowStep) -> bool
     ensures { (result ≡ true)
         ↔ (kept.now ≡ record { kind = kept.now.kind; id = kept.now.id; named = 0; text = [] }) }
 {
@@ -25,16 +27,20 @@ fn is_mark(kept: &Kept) -> bool
 }
 
 /// The edit or the group that lines keep, where so many ids were given before it.
-fn read_group(alloc: Global, given: u32, lines: &[Line]) -> Result<Option<(Step, u32)>, AllocError>
+fn read_group(
+    alloc: Global,
+    given: u32,
+    lines: &[Line],
+) -> Result<Option<(RecordedStep, u32)>, AllocError>
     requires { 0 < length lines.now }
     ensures read { IfOk result (λ read. IfSome read (λ read.
-        IsReadFrom given (kept_in lines.now) read.0 read.1)) }
+        IsReadFrom given (rows_in lines.now) read.0 read.1)) }
     ensures only { (edits : List EditValue)
-        → kept_in lines.now ≡ kept_of_step given (Edits edits)
+        → rows_in lines.now ≡ rows_of_step given (Edits edits)
         → IfOk result (λ read. read ≡ Some (Edits edits, given_by_step given (Edits edits))) }
 {
     match read_edits(alloc, given, lines)? {
-        Some((edits, after)) => Ok(Some((Step::Edits(edits), after))),
+        Some((edits, after)) => Ok(Some((RecordedStep::Edits(edits), after))),
         None => Ok(None),
     }
 }
@@ -43,48 +49,52 @@ fn read_group(alloc: Global, given: u32, lines: &[Line]) -> Result<Option<(Step,
 fn read_load(
     alloc: Global,
     given: u32,
-    first: &Kept,
+    first: &RowStep,
     lines: &[Line],
-) -> Result<Option<(Step, u32)>, AllocError>
+) -> Result<Option<(RecordedStep, u32)>, AllocError>
     requires { first.now.kind ≡ Kind.Load }
     ensures read { IfOk result (λ read. IfSome read (λ read.
-        IsReadFrom given (first.now ∷ kept_in lines.now) read.0 read.1)) }
+        IsReadFrom given (first.now ∷ rows_in lines.now) read.0 read.1)) }
     ensures only { (edits : List EditValue)
-        → first.now ∷ kept_in lines.now ≡ kept_of_step given (Load edits)
+        → first.now ∷ rows_in lines.now ≡ rows_of_step given (Load edits)
         → IfOk result (λ read. read ≡ Some (Load edits, given_by_step given (Load edits))) }
 {
     if !is_mark(first) || first.id != 0 {
         return Ok(None);
     }
     match read_edits(alloc, given, lines)? {
-        Some((edits, after)) => Ok(Some((Step::Load(edits), after))),
+        Some((edits, after)) => Ok(Some((RecordedStep::Load(edits), after))),
         None => Ok(None),
     }
 }
 
 /// The snapshot that lines keep, and how many ids were given then, however many were given before it.
-fn read_stream(alloc: Global, lines: &[Line]) -> Result<Option<(Step, u32)>, AllocError>
+fn read_stream(alloc: Global, lines: &[Line]) -> Result<Option<(RecordedStep, u32)>, AllocError>
     ensures read { (given : ℕ) → IfOk result (λ read. IfSome read (λ read.
-        IsReadFrom given (kept_in lines.now) read.0 read.1)) }
+        IsReadFrom given (rows_in lines.now) read.0 read.1)) }
     ensures only { (given : ℕ) (snapshot : SnapshotValue)
-        → kept_in lines.now ≡ kept_of_step given (Snapshot snapshot)
+        → rows_in lines.now ≡ rows_of_step given (Snapshot snapshot)
         → IfOk result (λ read. read ≡ Some (Snapshot snapshot, snapshot.ids_given)) }
 {
     match read_snapshot(alloc, lines)? {
         Some(snapshot) => {
             let ids_given = snapshot.ids_given();
-            Ok(Some((Step::Snapshot(snapshot), ids_given)))
+            Ok(Some((RecordedStep::Snapshot(snapshot), ids_given)))
         }
         None => Ok(None),
     }
 }
 
 /// The step that lines keep, where so many ids were given before it, and how many were given then.
-fn read_step(alloc: Global, given: u32, lines: &[Line]) -> Result<Option<(Step, u32)>, AllocError>
+fn read_step(
+    alloc: Global,
+    given: u32,
+    lines: &[Line],
+) -> Result<Option<(RecordedStep, u32)>, AllocError>
     ensures read { IfOk result (λ read. IfSome read (λ read.
-        IsReadFrom given (kept_in lines.now) read.0 read.1)) }
+        IsReadFrom given (rows_in lines.now) read.0 read.1)) }
     ensures only { (step : StepValue) → IsStep step
-        → kept_in lines.now ≡ kept_of_step given step
+        → rows_in lines.now ≡ rows_of_step given step
         → IfOk result (λ read. read ≡ Some (step, given_by_step given step)) }
 {
     let Some((first, more)) = lines.split_first() else {
@@ -117,7 +127,7 @@ fn first_lines(lines: &[Line], count: usize) -> &[Line]
 
 /// The steps whose lines these are, from the first record on, where no id was given before it, and
 /// how many ids were given after them. Nothing where they aren't those of steps.
-pub fn read(alloc: Global, lines: &[Line]) -> Result<Option<(Vec<Step>, u32)>, AllocError>
+pub fn read(alloc: Global, lines: &[Line]) -> Result<Option<(Vec<RecordedStep>, u32)>, AllocError>
     ensures lines { IfOk result (λ read. IfSome read (λ read.
         lines.now ≡ lines_of_steps 0 1 read.0.items)) }
     ensures are { IfOk result (λ read. IfSome read (λ read.
@@ -143,4 +153,21 @@ pub fn read(alloc: Global, lines: &[Line]) -> Result<Option<(Vec<Step>, u32)>, A
         from += count;
     }
     Ok(Some((steps, given)))
+}
+
+/// How many of the first lines are those of the record of this number.
+pub(crate) fn lines_in(lines: &[Line], entry: usize) -> usize
+    ensures fits { result ≤ length lines.now }
+    ensures are { AreOf entry (take result lines.now) }
+    ensures all { (kept : List RowStep) (more : List LineValue)
+        → lines.now ≡ lines_of entry kept ++ more → BeginOther entry more → result ≡ length kept }
+{
+    let mut count = 0;
+    for line in lines {
+        if line.entry as usize != entry || line.place as usize != count {
+            return count;
+        }
+        count += 1;
+    }
+    count
 }

@@ -2,14 +2,14 @@
 
 ghost use Rattle.std.specs.Prelude.{◌≡◌, ◌↔◌, ◌+◌, List, Some, true, IfOk, IfSome};
 ghost use Rattle.stream_edits.specs.declared.edits.Edit.{Edit as EditValue};
-ghost use Rattle.session_journal.specs.Kept.{given_after, given_after_edits, kept_of, kept_of_edits};
-ghost use Rattle.session_journal.specs.Records.{kept_in};
+ghost use Rattle.session_journal.specs.RecordRows.{given_after, given_after_edits, row_of, rows_of_edits};
+ghost use Rattle.session_journal.specs.Records.{rows_in};
 
-use crate::steps::edit_list::EditList;
-use edit_journal::{Kind, Line, Step as Kept};
+use crate::steps::step::EditList;
+use edit_journal::{Kind, Line, RowStep};
 use h264_types::pictures::AuId;
 use std::alloc::{AllocError, Global};
-use stream_edits::{Edit, Place};
+use stream_edits::{Edit, InsertionPoint};
 
 /// Whether this is the id that is given after so many others.
 fn is_next(given: u32, id: u32) -> bool
@@ -19,17 +19,17 @@ fn is_next(given: u32, id: u32) -> bool
 }
 
 /// The edit of which this is kept, where so many ids were given before it.
-fn edit_of(given: u32, kept: &Kept) -> Result<Option<Edit>, AllocError>
-    ensures kept { IfOk result (λ edit. IfSome edit (λ edit. kept.now ≡ kept_of given edit)) }
-    ensures only { (edit : EditValue) → kept.now ≡ kept_of given edit
+fn edit_of(given: u32, kept: &RowStep) -> Result<Option<Edit>, AllocError>
+    ensures kept { IfOk result (λ edit. IfSome edit (λ edit. kept.now ≡ row_of given edit)) }
+    ensures only { (edit : EditValue) → kept.now ≡ row_of given edit
         → IfOk result (λ read. read ≡ Some edit) }
 {
     match kept.kind {
         Kind::InsertFirst if is_next(given, kept.id) && kept.named == 0 => {
-            Ok(Some(Edit::Insert(Place::First, kept.text.clone()?)))
+            Ok(Some(Edit::Insert(InsertionPoint::First, kept.text.clone()?)))
         }
         Kind::Insert if is_next(given, kept.id) => Ok(Some(Edit::Insert(
-            Place::After(AuId::new(kept.named)),
+            InsertionPoint::After(AuId::new(kept.named)),
             kept.text.clone()?,
         ))),
         Kind::Delete if kept.named == 0 && kept.text.is_empty() => {
@@ -44,8 +44,8 @@ fn edit_of(given: u32, kept: &Kept) -> Result<Option<Edit>, AllocError>
 }
 
 /// How many ids were given, with that of the edit of which this is kept.
-fn given_after(given: u32, kept: &Kept) -> u32
-    ensures { (edit : EditValue) → kept.now ≡ kept_of given edit
+fn given_after(given: u32, kept: &RowStep) -> u32
+    ensures { (edit : EditValue) → kept.now ≡ row_of given edit
         → result ≡ given_after given edit }
 {
     match kept.kind {
@@ -62,10 +62,10 @@ pub(crate) fn read_edits(
     lines: &[Line],
 ) -> Result<Option<(EditList, u32)>, AllocError>
     ensures kept { IfOk result (λ read. IfSome read (λ read.
-        kept_in lines.now ≡ kept_of_edits given read.0)) }
+        rows_in lines.now ≡ rows_of_edits given read.0)) }
     ensures after { IfOk result (λ read. IfSome read (λ read.
         read.1 ≡ given_after_edits given read.0)) }
-    ensures only { (edits : List EditValue) → kept_in lines.now ≡ kept_of_edits given edits
+    ensures only { (edits : List EditValue) → rows_in lines.now ≡ rows_of_edits given edits
         → IfOk result (λ read. read ≡ Some (edits, given_after_edits given edits)) }
 {
     let mut after = given;

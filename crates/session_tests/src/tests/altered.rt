@@ -1,9 +1,9 @@
 //! Which units are altered since the stream was marked.
 
 use super::{A, P1, P2, empty_session, row_holds};
-use Told::{After, Delete, First, Replace};
+use EditRow::{After, Delete, First, Replace};
 use h264_types::pictures::AuId;
-use session_builders::{Told, edits_of};
+use session_builders::{EditRow, edits_of};
 use stand_in_session::Session;
 use std::test::Fail;
 
@@ -15,7 +15,7 @@ const OTHER: &[u8] = &[
 
 /// Groups of edits on one session, one after the other; of each the units that are altered then,
 /// and whether the stream is marked after that, so that none is.
-const ROWS: [(&[Told], &[u32], bool); 8] = [
+const ROWS: [(&[EditRow], &[u32], bool); 8] = [
     // Before the first mark.
     (&[First(A), After(1, P1), After(2, P2)], &[], true),
     // What listed the unit has a fault, and isn't altered by that.

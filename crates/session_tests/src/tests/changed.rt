@@ -1,14 +1,14 @@
 //! Which units an edit changed, as its receipt tells.
 
 use super::{A, I, P1, P2, empty_session, row_holds};
-use Told::{After, Delete, First, Replace};
-use session_builders::{Told, edits_of};
+use EditRow::{After, Delete, First, Replace};
+use session_builders::{EditRow, edits_of};
 use stand_in_session::Changed;
 use std::test::Fail;
 
 /// Groups of edits on one session, one after the other, and of each the first place of the units
 /// that it changed, and how many there are.
-const ROWS: [(&[Told], (u64, u64)); 13] = [
+const ROWS: [(&[EditRow], (u64, u64)); 13] = [
     (&[First(A), After(1, P1), After(2, P2)], (0, 3)),
     // At the end.
     (&[After(3, I)], (3, 1)),
@@ -23,7 +23,7 @@ const ROWS: [(&[Told], (u64, u64)); 13] = [
     // The second edit undoes the first.
     (&[Replace(5, P2), Replace(5, P1)], (0, 0)),
     (&[First(I), Delete(6)], (0, 0)),
-    // Of a stretch also what stays between two units that changed is told.
+    // Of a range also what stays between two units that changed is told.
     (&[After(3, I), First(P1)], (0, 5)),
     (&[Delete(8)], (0, 0)),
     (&[First(P2)], (0, 1)),

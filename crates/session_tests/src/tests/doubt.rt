@@ -1,14 +1,14 @@
 //! Which units a session tells in doubt, after edits.
 
 use super::{A, P1, P2, empty_session, row_holds};
-use Told::{After, Delete, First};
-use session_builders::{Told, edits_of};
+use EditRow::{After, Delete, First};
+use session_builders::{EditRow, edits_of};
 use stand_in_session::Doubt;
 use std::test::Fail;
 
 /// A group of edits, and of each unit after it the number of the one that it follows, 0 where it
 /// follows none, and whether it is in doubt.
-type Row = (&'static [Told], &'static [(u32, bool)]);
+type Row = (&'static [EditRow], &'static [(u32, bool)]);
 
 const NONE: (u32, bool) = (0, false);
 

@@ -1,12 +1,12 @@
 //! Edits of a session, and the outcomes of its units.
 
 use super::{A, I, P1, P2, Shown, Step, empty_session, holds, row_holds};
+use EditRow::{After, Delete, First, Replace};
 use Shown::{At, Empty, Fault, Gone};
 use Step::Unit;
-use Told::{After, Delete, First, Replace};
 use h264_controls::Request;
 use h264_types::pictures::AuId;
-use session_builders::Told;
+use session_builders::EditRow;
 use stand_in_session::{Config, ConfigFault, Last, Session};
 use unit_outcomes::{Outcome, Plan, ValidityFault};
 

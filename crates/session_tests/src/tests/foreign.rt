@@ -5,7 +5,7 @@ use super::{A, empty_session, row_holds};
 use Brought::{Gives, Lands};
 use Whose::{Other, Own};
 use h264_types::pictures::AuId;
-use session_builders::{Told, edit_of};
+use session_builders::{EditRow, edit_of};
 use stand_in_device::{Device, Input, Undone};
 use stand_in_session::{Job, Landing, Returning, Session, Shown};
 use std::alloc::{AllocError, AllocGlobal, Global};
@@ -63,7 +63,7 @@ fn taken(session: &mut Session) -> Option<(u64, Input)> {
 
 /// What the first job of a session is given to decode, of a unit with this text.
 fn first_input(session: &mut Session, text: &'static [u8]) -> Option<Input> {
-    if session.edit(edit_of(Told::First(text))).is_err() {
+    if session.edit(edit_of(EditRow::First(text))).is_err() {
         return None;
     }
     match taken(session) {

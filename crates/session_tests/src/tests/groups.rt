@@ -1,9 +1,9 @@
 //! Groups of edits, each of which is one step.
 
 use super::{A, I, P1, P2, empty_session, row_holds, runner_of};
-use Told::{After, Delete, First, Replace};
+use EditRow::{After, Delete, First, Replace};
 use h264_types::pictures::AuId;
-use session_builders::{Told, are_ids, edit_of, edits_of};
+use session_builders::{EditRow, are_ids, edit_of, edits_of};
 use stand_in_session::{
     Command, Edit, GroupReceipt, GroupRefused, Reply, Runner, Session, Shown, TakenJob,
 };
@@ -42,7 +42,7 @@ fn is_answer(answer: &Result<GroupReceipt, GroupRefused>, wanted: Answer) -> boo
 /// group at its end makes a step for each new unit, any other for each unit of the new stream, but
 /// those in front of the one before it where that was in the same place, and one that changes
 /// nothing none.
-const GROUPS: [(&[Told], Answer); 14] = [
+const GROUPS: [(&[EditRow], Answer); 14] = [
     (&[], Err((None, 20))),
     (&[First(A)], Ok((1, &[1], 1))),
     // What an edit before it inserted may be named.

@@ -14,7 +14,7 @@ mod sessions;
 mod starved;
 mod streams;
 
-use session_builders::Told;
+use session_builders::EditRow;
 use stand_in_session::{Config, ConfigFault, Runner, Session};
 use std::alloc::Global;
 use std::process::Abort;
@@ -65,10 +65,10 @@ fn empty_runner(rt: &(impl Abort + AllocGlobal)) -> Runner
 }
 
 /// The insertion of a unit after the last one, of which there are so many under the ids from 1 on.
-fn appended(last: u32, text: &'static [u8]) -> Told {
+fn appended(last: u32, text: &'static [u8]) -> EditRow {
     if last == 0 {
-        Told::First(text)
+        EditRow::First(text)
     } else {
-        Told::After(last, text)
+        EditRow::After(last, text)
     }
 }

@@ -2,7 +2,7 @@
 
 use super::{A, I, P1, P2, row_holds, runner_of};
 use h264_types::pictures::AuId;
-use session_builders::{Told, edit_of};
+use session_builders::{EditRow, edit_of};
 use stand_in_session::{
     Command, Config, Dropping, Landing, NotOut, Picture, Reply, Returning, Runner, Shown, run,
 };
@@ -44,7 +44,7 @@ const PICTURE_OF_A: [u8; 32] = [
 #[derive(Clone, Copy)]
 pub(super) enum Act {
     /// An edit that is accepted.
-    Edit(Told),
+    Edit(EditRow),
     /// The job of this number, with this unit.
     Take(u64, u32),
     TakesNone,
@@ -70,28 +70,28 @@ pub(super) enum Act {
 
 /// A unit in the middle is deleted, and inserted again: what comes after it has its picture again.
 const DELETE_AND_REPAIR: &[Act] = &[
-    Act::Edit(Told::First(A)),
-    Act::Edit(Told::After(1, P1)),
-    Act::Edit(Told::After(2, P2)),
+    Act::Edit(EditRow::First(A)),
+    Act::Edit(EditRow::After(1, P1)),
+    Act::Edit(EditRow::After(2, P2)),
     Act::Settle,
     Act::Ready(1),
     Act::Ready(2),
     Act::Ready(3),
-    Act::Edit(Told::Delete(2)),
+    Act::Edit(EditRow::Delete(2)),
     Act::Gone(2),
     Act::Fault(3, 11),
-    Act::Edit(Told::After(1, P1)),
+    Act::Edit(EditRow::After(1, P1)),
     Act::Ready(3),
     Act::Ready(4),
 ];
 
 /// A unit with other slice data, and what refers to it.
 const REPLACE: &[Act] = &[
-    Act::Edit(Told::First(A)),
-    Act::Edit(Told::After(1, P1)),
-    Act::Edit(Told::After(2, P2)),
+    Act::Edit(EditRow::First(A)),
+    Act::Edit(EditRow::After(1, P1)),
+    Act::Edit(EditRow::After(2, P2)),
     Act::Settle,
-    Act::Edit(Told::Replace(2, P1X)),
+    Act::Edit(EditRow::Replace(2, P1X)),
     Act::Ready(1),
     Act::Pending(2),
     Act::Pending(3),
@@ -101,12 +101,12 @@ const REPLACE: &[Act] = &[
 
 /// A picture that nothing refers to changes alone.
 const NON_REFERENCES: &[Act] = &[
-    Act::Edit(Told::First(A)),
-    Act::Edit(Told::After(1, P1)),
-    Act::Edit(Told::After(2, NON_REFERENCE)),
-    Act::Edit(Told::After(3, P2)),
+    Act::Edit(EditRow::First(A)),
+    Act::Edit(EditRow::After(1, P1)),
+    Act::Edit(EditRow::After(2, NON_REFERENCE)),
+    Act::Edit(EditRow::After(3, P2)),
     Act::Settle,
-    Act::Edit(Told::Replace(3, OTHER_NON_REFERENCE)),
+    Act::Edit(EditRow::Replace(3, OTHER_NON_REFERENCE)),
     Act::Ready(1),
     Act::Ready(2),
     Act::Pending(3),
@@ -115,18 +115,18 @@ const NON_REFERENCES: &[Act] = &[
 
 /// Results that come late, for what is no longer there and for what is there again.
 const STALE_AND_LATE: &[Act] = &[
-    Act::Edit(Told::First(A)),
-    Act::Edit(Told::After(1, P1)),
+    Act::Edit(EditRow::First(A)),
+    Act::Edit(EditRow::After(1, P1)),
     Act::Take(1, 1),
     Act::TakesNone,
     Act::Land(1, Landing::Taken),
     Act::Take(2, 2),
-    Act::Edit(Told::Replace(2, P1X)),
+    Act::Edit(EditRow::Replace(2, P1X)),
     Act::Land(2, Landing::Stale),
     Act::Pending(2),
     Act::Take(3, 2),
-    Act::Edit(Told::Replace(2, P1)),
-    Act::Edit(Told::Replace(2, P1X)),
+    Act::Edit(EditRow::Replace(2, P1)),
+    Act::Edit(EditRow::Replace(2, P1X)),
     Act::Land(3, Landing::Taken),
     Act::Ready(2),
     Act::LandsNone(3),
@@ -134,8 +134,8 @@ const STALE_AND_LATE: &[Act] = &[
 
 /// Two units with one picture.
 const EQUAL_UNITS: &[Act] = &[
-    Act::Edit(Told::First(A)),
-    Act::Edit(Told::After(1, I)),
+    Act::Edit(EditRow::First(A)),
+    Act::Edit(EditRow::After(1, I)),
     Act::Take(1, 1),
     Act::TakesNone,
     Act::Pending(1),
@@ -148,23 +148,23 @@ const EQUAL_UNITS: &[Act] = &[
 
 /// A picture of two units stays where one of them goes, and a third one has it at once.
 const SHARED_PICTURE: &[Act] = &[
-    Act::Edit(Told::First(A)),
-    Act::Edit(Told::After(1, I)),
-    Act::Edit(Told::After(2, I)),
+    Act::Edit(EditRow::First(A)),
+    Act::Edit(EditRow::After(1, I)),
+    Act::Edit(EditRow::After(2, I)),
     Act::Settle,
-    Act::Edit(Told::Delete(2)),
+    Act::Edit(EditRow::Delete(2)),
     Act::Ready(3),
-    Act::Edit(Told::After(1, I)),
+    Act::Edit(EditRow::After(1, I)),
     Act::Ready(4),
     Act::TakesNone,
 ];
 
 /// A result lands where its picture is wanted, and not at the unit that it was taken for.
 const ANOTHER_UNIT: &[Act] = &[
-    Act::Edit(Told::First(A)),
-    Act::Edit(Told::After(1, I)),
+    Act::Edit(EditRow::First(A)),
+    Act::Edit(EditRow::After(1, I)),
     Act::Take(1, 1),
-    Act::Edit(Told::Replace(1, A1)),
+    Act::Edit(EditRow::Replace(1, A1)),
     Act::Land(1, Landing::Taken),
     Act::Pending(1),
     Act::Ready(2),
@@ -173,8 +173,8 @@ const ANOTHER_UNIT: &[Act] = &[
 
 /// Two jobs are out, and the later one lands first.
 const OUT_OF_ORDER: &[Act] = &[
-    Act::Edit(Told::First(A)),
-    Act::Edit(Told::After(1, I1)),
+    Act::Edit(EditRow::First(A)),
+    Act::Edit(EditRow::After(1, I1)),
     Act::Take(1, 1),
     Act::Take(2, 2),
     Act::TakesNone,
@@ -187,8 +187,8 @@ const OUT_OF_ORDER: &[Act] = &[
 
 /// Two jobs are out at the end.
 const LEFT_OUT: &[Act] = &[
-    Act::Edit(Told::First(A)),
-    Act::Edit(Told::After(1, I1)),
+    Act::Edit(EditRow::First(A)),
+    Act::Edit(EditRow::After(1, I1)),
     Act::Take(1, 1),
     Act::Take(2, 2),
 ];
@@ -197,7 +197,7 @@ const LEFT_OUT: &[Act] = &[
 const GIVEN_BACK: &[Act] = &[
     Act::TakesNone,
     Act::Gone(1),
-    Act::Edit(Told::First(A)),
+    Act::Edit(EditRow::First(A)),
     Act::Take(1, 1),
     Act::Give(1),
     Act::Take(2, 1),
@@ -209,32 +209,32 @@ const GIVEN_BACK: &[Act] = &[
 
 /// With room for one picture in the cache, the one that went last is still there.
 const CACHE_OF_ONE: &[Act] = &[
-    Act::Edit(Told::First(A)),
+    Act::Edit(EditRow::First(A)),
     Act::Settle,
-    Act::Edit(Told::Replace(1, A1)),
+    Act::Edit(EditRow::Replace(1, A1)),
     Act::Settle,
-    Act::Edit(Told::Replace(1, A2)),
+    Act::Edit(EditRow::Replace(1, A2)),
     Act::Settle,
-    Act::Edit(Told::Replace(1, A)),
+    Act::Edit(EditRow::Replace(1, A)),
     Act::Pending(1),
-    Act::Edit(Told::Replace(1, A1)),
+    Act::Edit(EditRow::Replace(1, A1)),
     Act::Pending(1),
-    Act::Edit(Told::Replace(1, A2)),
+    Act::Edit(EditRow::Replace(1, A2)),
     Act::Ready(1),
 ];
 
 /// A unit without a slice has no job, and a result for the picture that it was comes too late.
 const WITHOUT_A_SLICE: &[Act] = &[
-    Act::Edit(Told::First(A)),
-    Act::Edit(Told::After(1, SPS)),
+    Act::Edit(EditRow::First(A)),
+    Act::Edit(EditRow::After(1, SPS)),
     Act::Empty(2),
     Act::Take(1, 1),
     Act::TakesNone,
     Act::Land(1, Landing::Taken),
-    Act::Edit(Told::Replace(2, P1)),
+    Act::Edit(EditRow::Replace(2, P1)),
     Act::Pending(2),
     Act::Take(2, 2),
-    Act::Edit(Told::Replace(2, SPS)),
+    Act::Edit(EditRow::Replace(2, SPS)),
     Act::Empty(2),
     Act::Land(2, Landing::Stale),
     Act::TakesNone,
@@ -350,8 +350,8 @@ pub(super) fn all_hold(mut runner: Runner, acts: &[Act]) -> Result<bool, AllocEr
 
 #[test]
 fn jobs_and_pictures(rt: HostRuntime) -> Result<(), Fail> {
-    for (row, (room, acts)) in ROWS.iter().enumerate() {
-        let runner = runner_of(&rt, *room);
+    for (row, (capacity, acts)) in ROWS.iter().enumerate() {
+        let runner = runner_of(&rt, *capacity);
         row_holds(&rt, row, all_hold(runner, acts)?);
     }
     Ok(())
@@ -404,7 +404,7 @@ fn a_run_replies_about_jobs(rt: HostRuntime) -> Result<(), Fail> {
 
 /// Whether the picture of A, decoded, is this one.
 fn shows_a(mut runner: Runner, picture: Picture) -> Result<bool, AllocError> {
-    runner.step(Command::Edit(edit_of(Told::First(A))))?;
+    runner.step(Command::Edit(edit_of(EditRow::First(A))))?;
     settle(&mut runner, Act::Settle)?;
     match runner.step(Command::Show(AuId::new(1)))? {
         Reply::Show(shown) => Ok(shown == Shown::Ready(picture)),

@@ -2,7 +2,7 @@
 
 use super::{A, Answer, empty_session, is_answer, row_holds};
 use bytes::Bytes;
-use stand_in_session::{Edit, Place, Session};
+use stand_in_session::{Edit, InsertionPoint, Session};
 use std::alloc::{AllocError, Global};
 use std::test::Fail;
 
@@ -20,7 +20,7 @@ fn answers_text(
     length: usize,
     wanted: Answer,
 ) -> Result<bool, AllocError> {
-    let edit = Edit::Insert(Place::First, text_of(alloc, length)?);
+    let edit = Edit::Insert(InsertionPoint::First, text_of(alloc, length)?);
     Ok(is_answer(session.edit(edit), wanted))
 }
 

@@ -4,7 +4,7 @@ use super::jobs::{Act, holds};
 use super::{A, runner_of};
 use bytes::Bytes;
 use h264_types::pictures::AuId;
-use session_builders::Told;
+use session_builders::EditRow;
 use stand_in_session::{Command, Edit, Landing, Reply, Runner};
 use std::alloc::{AllocError, Global};
 use std::test::Fail;
@@ -38,12 +38,12 @@ const TWO_ENTRIES: [&[u8]; 16] = [
 
 /// The first unit and so many P pictures after it are inserted, each edit being accepted.
 fn are_inserted(runner: &mut Runner, count: u32) -> Result<bool, AllocError> {
-    if !holds(runner, Act::Edit(Told::First(FIRST)))? {
+    if !holds(runner, Act::Edit(EditRow::First(FIRST)))? {
         return Ok(false);
     }
     for id in 1..=count {
         let text = TWO_ENTRIES.get(id as usize % 16).copied().unwrap_or(&[]);
-        if !holds(runner, Act::Edit(Told::After(id, text)))? {
+        if !holds(runner, Act::Edit(EditRow::After(id, text)))? {
             return Ok(false);
         }
     }
@@ -103,11 +103,11 @@ fn has_small_number(runner: &Runner) -> bool {
 }
 
 /// What comes before the replacements, and after them.
-const BEFORE: [Act; 2] = [Act::Edit(Told::First(A)), Act::Take(1, 1)];
+const BEFORE: [Act; 2] = [Act::Edit(EditRow::First(A)), Act::Take(1, 1)];
 
 const AFTER: [Act; 5] = [
     Act::Pending(1),
-    Act::Edit(Told::Replace(1, A)),
+    Act::Edit(EditRow::Replace(1, A)),
     Act::TakesNone,
     Act::Land(1, Landing::Taken),
     Act::Ready(1),

@@ -2,16 +2,16 @@
 
 use super::jobs::{A1, Act, I1, all_hold, runs};
 use super::{A, I, P1, P2, row_holds, runner_of};
-use session_builders::Told;
+use session_builders::EditRow;
 use stand_in_session::{Dropping, Landing};
 use std::test::Fail;
 
 /// Three pictures, each of which needs those before it: taken for the last one, they come one after
 /// the other. One that is dropped then is pending, but what was made of it is not.
 const ONE_AFTER_THE_OTHER: &[Act] = &[
-    Act::Edit(Told::First(A)),
-    Act::Edit(Told::After(1, P1)),
-    Act::Edit(Told::After(2, P2)),
+    Act::Edit(EditRow::First(A)),
+    Act::Edit(EditRow::After(1, P1)),
+    Act::Edit(EditRow::After(2, P2)),
     Act::TakeFor(3, 1, 1),
     Act::TakesNoneFor(3),
     Act::Land(1, Landing::Taken),
@@ -30,10 +30,10 @@ const ONE_AFTER_THE_OTHER: &[Act] = &[
 
 /// The second of two periods is made, and nothing of the first.
 const SECOND_PERIOD: &[Act] = &[
-    Act::Edit(Told::First(A)),
-    Act::Edit(Told::After(1, P1)),
-    Act::Edit(Told::After(2, I1)),
-    Act::Edit(Told::After(3, P1)),
+    Act::Edit(EditRow::First(A)),
+    Act::Edit(EditRow::After(1, P1)),
+    Act::Edit(EditRow::After(2, I1)),
+    Act::Edit(EditRow::After(3, P1)),
     Act::SettleFor(4),
     Act::Ready(4),
     Act::Ready(3),
@@ -44,8 +44,8 @@ const SECOND_PERIOD: &[Act] = &[
 /// Nothing is taken for a unit that isn't there, that has a fault, or whose picture is held.
 const NOTHING_NEEDED: &[Act] = &[
     Act::TakesNoneFor(9),
-    Act::Edit(Told::First(A)),
-    Act::Edit(Told::After(1, P2)),
+    Act::Edit(EditRow::First(A)),
+    Act::Edit(EditRow::After(1, P2)),
     Act::Fault(2, 11),
     Act::TakesNoneFor(2),
     Act::TakeFor(1, 1, 1),
@@ -57,8 +57,8 @@ const NOTHING_NEEDED: &[Act] = &[
 
 /// A job is told with the unit that is needed, of which an earlier one has the key too.
 const LATER_UNIT: &[Act] = &[
-    Act::Edit(Told::First(A)),
-    Act::Edit(Told::After(1, I)),
+    Act::Edit(EditRow::First(A)),
+    Act::Edit(EditRow::After(1, I)),
     Act::TakeFor(2, 1, 2),
     Act::TakesNone,
     Act::Land(1, Landing::Taken),
@@ -68,9 +68,9 @@ const LATER_UNIT: &[Act] = &[
 
 /// What was dropped below a unit is made anew with it, and given back jobs are given again.
 const MADE_ANEW: &[Act] = &[
-    Act::Edit(Told::First(A)),
-    Act::Edit(Told::After(1, P1)),
-    Act::Edit(Told::After(2, P2)),
+    Act::Edit(EditRow::First(A)),
+    Act::Edit(EditRow::After(1, P1)),
+    Act::Edit(EditRow::After(2, P2)),
     Act::Settle,
     Act::Drop(1, Dropping::Dropped),
     Act::Drop(3, Dropping::Dropped),
@@ -87,9 +87,9 @@ const MADE_ANEW: &[Act] = &[
 
 /// A reference is dropped while a job that was made of it is out.
 const DROPPED_MEANWHILE: &[Act] = &[
-    Act::Edit(Told::First(A)),
-    Act::Edit(Told::After(1, P1)),
-    Act::Edit(Told::After(2, P2)),
+    Act::Edit(EditRow::First(A)),
+    Act::Edit(EditRow::After(1, P1)),
+    Act::Edit(EditRow::After(2, P2)),
     Act::TakeFor(3, 1, 1),
     Act::Land(1, Landing::Taken),
     Act::TakeFor(3, 2, 2),
@@ -108,14 +108,14 @@ const DROPPED_MEANWHILE: &[Act] = &[
 /// What is dropped, and what isn't held.
 const DROPS: &[Act] = &[
     Act::Drop(9, Dropping::NoSuchUnit),
-    Act::Edit(Told::First(A)),
+    Act::Edit(EditRow::First(A)),
     Act::Drop(1, Dropping::NotHeld),
-    Act::Edit(Told::After(1, I)),
+    Act::Edit(EditRow::After(1, I)),
     Act::Settle,
     Act::Drop(1, Dropping::Dropped),
     Act::Drop(1, Dropping::NotHeld),
     Act::Pending(2),
-    Act::Edit(Told::After(2, P2)),
+    Act::Edit(EditRow::After(2, P2)),
     Act::Fault(3, 11),
     Act::Drop(3, Dropping::NotHeld),
 ];
@@ -123,16 +123,16 @@ const DROPS: &[Act] = &[
 /// A picture that is dropped isn't cached, and one that is cached isn't held again once the cache
 /// was cleared.
 const CACHED: &[Act] = &[
-    Act::Edit(Told::First(A)),
+    Act::Edit(EditRow::First(A)),
     Act::Settle,
     Act::Drop(1, Dropping::Dropped),
-    Act::Edit(Told::Replace(1, A1)),
-    Act::Edit(Told::Replace(1, A)),
+    Act::Edit(EditRow::Replace(1, A1)),
+    Act::Edit(EditRow::Replace(1, A)),
     Act::Pending(1),
     Act::Settle,
-    Act::Edit(Told::Replace(1, A1)),
+    Act::Edit(EditRow::Replace(1, A1)),
     Act::ClearCache,
-    Act::Edit(Told::Replace(1, A)),
+    Act::Edit(EditRow::Replace(1, A)),
     Act::Pending(1),
 ];
 

@@ -5,7 +5,7 @@ ghost use Rattle.std.specs.Prelude.{◌<◌, ◌≤◌, length, vec_len, IfSome}
 use super::{A, I, P1, P2, empty_session, row_holds};
 use access_unit::{Unit, read_unit};
 use h264_types::pictures::AuId;
-use session_builders::{Told, edit_of, tells_each};
+use session_builders::{EditRow, edit_of, tells_each};
 use stand_in_session::{Last, Receipt, Session};
 use std::alloc::{AllocError, Global};
 use std::test::Fail;
@@ -54,28 +54,28 @@ fn draw_id(draws: &mut Draws, mirror: &[Kept], next: u32) -> u32 {
 }
 
 /// Draws an edit, and says whether its text is a unit.
-fn draw(draws: &mut Draws, mirror: &[Kept], next: u32) -> (Told, bool) {
+fn draw(draws: &mut Draws, mirror: &[Kept], next: u32) -> (EditRow, bool) {
     let (text, is_unit) = draw_text(draws);
     let id = draw_id(draws, mirror, next);
     match draws.below(if mirror.len() > 24 { 4 } else { 8 }) {
-        0 | 1 => (Told::Delete(id), true),
-        2 | 3 => (Told::Replace(id, text), is_unit),
-        4 => (Told::First(text), is_unit),
-        _ => (Told::After(id, text), is_unit),
+        0 | 1 => (EditRow::Delete(id), true),
+        2 | 3 => (EditRow::Replace(id, text), is_unit),
+        4 => (EditRow::First(text), is_unit),
+        _ => (EditRow::After(id, text), is_unit),
     }
 }
 
 /// Makes an edit whose text is a unit in the mirror, where the one that is inserted gets this id,
 /// and says whether it is accepted.
-fn make(mirror: &mut Vec<Kept>, told: Told, next: u32) -> Result<bool, AllocError> {
+fn make(mirror: &mut Vec<Kept>, told: EditRow, next: u32) -> Result<bool, AllocError> {
     match told {
-        Told::First(text) => insert(mirror, 0, (next, text)),
-        Told::After(id, text) => match place_of(mirror, id) {
+        EditRow::First(text) => insert(mirror, 0, (next, text)),
+        EditRow::After(id, text) => match place_of(mirror, id) {
             Some(place) => insert(mirror, place + 1, (next, text)),
             None => Ok(false),
         },
-        Told::Delete(id) => Ok(delete(mirror, id)),
-        Told::Replace(id, text) => Ok(replace(mirror, id, text)),
+        EditRow::Delete(id) => Ok(delete(mirror, id)),
+        EditRow::Replace(id, text) => Ok(replace(mirror, id, text)),
     }
 }
 
@@ -142,10 +142,10 @@ struct Tally {
 
 impl Tally {
     /// Counts an accepted edit, and says whether this is its receipt.
-    fn counts(&mut self, receipt: Receipt, told: Told, units: usize) -> bool {
+    fn counts(&mut self, receipt: Receipt, told: EditRow, units: usize) -> bool {
         self.accepted = self.accepted.saturating_add(1);
         let is_next = receipt.id == AuId::new(self.next);
-        let is_insertion = matches!(told, Told::First(_) | Told::After(_, _));
+        let is_insertion = matches!(told, EditRow::First(_) | EditRow::After(_, _));
         if is_insertion {
             self.next = self.next.saturating_add(1);
         }

@@ -1,11 +1,11 @@
 //! Commands followed one after the other, and runs of many.
 
 use super::{A, Answer, P1, Shown, Step, is_answer, row_holds, runner_of, shows};
+use EditRow::{After, Delete, First};
 use Shown::{At, Fault, Gone};
 use Step::Unit;
-use Told::{After, Delete, First};
 use h264_types::pictures::AuId;
-use session_builders::{Told, edit_of};
+use session_builders::{EditRow, edit_of};
 use stand_in_session::{Command, Config, NoSuchUnit, Reply, Runner, UnitReport, run};
 use std::alloc::{AllocError, Global};
 use std::test::Fail;

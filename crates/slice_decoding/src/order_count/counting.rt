@@ -1,10 +1,10 @@
-ghost use Rattle.std.specs.Prelude.{◌≡◌, IsTrue, IfOk};
+ghost use Rattle.std.specs.Prelude.{◌≡◌, IsTrue, IfOk, Ok, Err, if◌then◌else◌};
 ghost use Rattle.h264_types.specs.PicOrderCnt.{are_in_range};
 ghost use Rattle.h264_types.specs.Resetting.{counts_after_reset};
 ghost use Rattle.slice_decoding.specs.Counting.{counts_of};
+ghost use Rattle.slice_decoding.specs.Width.{plain};
 
 use crate::order_count::anchors::Anchor;
-use crate::order_count::fault::OrderRange;
 use crate::order_count::frame_numbers::small_offset;
 use crate::order_count::type_one::type_one;
 use crate::order_count::type_two::type_two;
@@ -12,6 +12,34 @@ use crate::order_count::type_zero::type_zero;
 use h264_types::param_sets::{PicOrderCntType, Sps};
 use h264_types::pictures::{Counts, resets};
 use h264_types::slice_headers::SliceHeader;
+use thiserror::Error;
+
+/// A count, before or after resetting, that leaves 32 signed bits, or a FrameNumOffset of 2^32 or
+/// more.
+#[derive(Clone, Copy, Debug, PartialEq, Eq, Hash, Error)]
+#[error("a picture order count leaves 32 bits")]
+pub struct OrderRange;
+
+// Counts that were not yet tested: their width holds whatever an anchor, a set and a header lead
+// to.
+#[derive(Clone, Copy)]
+pub(crate) struct WideCounts {
+    pub(crate) top: i128,
+    pub(crate) bottom: i128,
+}
+
+impl WideCounts {
+    // The counts, where both are in range.
+    pub(crate) fn in_range(self) -> Result<Counts, OrderRange>
+        ensures { result
+            ≡ (if are_in_range (plain self) then Ok (plain self) else Err (record {})) }
+    {
+        match (i32::try_from(self.top), i32::try_from(self.bottom)) {
+            (Ok(top), Ok(bottom)) => Ok(Counts { top, bottom }),
+            _ => Err(OrderRange),
+        }
+    }
+}
 
 /// The counts of a picture, before operation 5 resets them.
 ///

@@ -3,7 +3,7 @@ ghost use Rattle.std.specs.Prelude.{◌≡◌, ◌<◌, ◌≤◌, ◌^◌, Ok, 
 ghost use Rattle.slice_decoding.specs.FrameNumbers.{frame_num_offset};
 
 use crate::order_count::anchors::Anchor;
-use crate::order_count::fault::OrderRange;
+use crate::order_count::counting::OrderRange;
 use h264_types::param_sets::Sps;
 use h264_types::slice_headers::SliceHeader;
 

@@ -3,7 +3,7 @@ ghost use Rattle.std.specs.Prelude.{◌≡◌};
 ghost use Rattle.slice_decoding.specs.Width.{plain};
 ghost use Rattle.slice_decoding.specs.TypeTwo.{type_two, temp_pic_order_cnt};
 
-use crate::order_count::wide_counts::WideCounts;
+use crate::order_count::counting::WideCounts;
 use h264_types::slice_headers::SliceHeader;
 
 /// The counts of a picture of type 2, by its FrameNumOffset.

@@ -4,7 +4,7 @@ ghost use Rattle.slice_decoding.specs.Width.{plain};
 ghost use Rattle.slice_decoding.specs.TypeZero.{type_zero, pic_order_cnt_msb, max_pic_order_cnt_lsb, msb_near};
 
 use crate::order_count::anchors::Anchor;
-use crate::order_count::wide_counts::WideCounts;
+use crate::order_count::counting::WideCounts;
 use h264_types::param_sets::Sps;
 use h264_types::slice_headers::SliceHeader;
 

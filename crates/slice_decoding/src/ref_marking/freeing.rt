@@ -3,6 +3,7 @@
 ghost use Rattle.std.specs.Prelude.{◌≡◌, ◌<◌, ◌≤◌, ℕ, length, position, IfSome};
 ghost use Rattle.h264_types.specs.MarkedFrames.{without_idx};
 ghost use Rattle.slice_decoding.specs.MarksAfter.{has_pic_num, has_long_term_pic_num, leaves, without_at};
+ghost use Rattle.slice_decoding.specs.Operations.{pic_num_x};
 
 use crate::ref_marking::fault::MarkFault;
 use h264_types::param_sets::Sps;
@@ -53,4 +54,11 @@ pub(crate) fn take_out_long_term(marks: &mut Marks, long_term_frame_idx: u8)
     marks
         .frames
         .retain(|frame| !frame.term.holds(long_term_frame_idx));
+}
+
+// picNumX, which operations 1 and 3 name.
+pub(crate) fn pic_num_x(frame_num: u16, difference_of_pic_nums_minus1: u32) -> i64
+    ensures { result ≡ pic_num_x frame_num difference_of_pic_nums_minus1 }
+{
+    i64::from(frame_num) - (i64::from(difference_of_pic_nums_minus1) + 1)
 }

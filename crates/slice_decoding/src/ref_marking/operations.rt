@@ -9,9 +9,8 @@ ghost use Rattle.slice_decoding.specs.MarksAfter.{leaves, allows_idx, short_term
 
 use crate::ref_marking::fault::MarkFault;
 use crate::ref_marking::freeing::{
-    long_term_place, short_term_place, take_out, take_out_long_term,
+    long_term_place, pic_num_x, short_term_place, take_out, take_out_long_term,
 };
-use crate::ref_marking::numbers::pic_num_x;
 use h264_types::param_sets::Sps;
 use h264_types::pictures::{Marks, Term};
 use h264_types::slice_headers::MemoryManagementControlOperation as Operation;

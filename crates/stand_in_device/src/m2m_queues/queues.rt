@@ -8,7 +8,7 @@ mod requests;
 mod run;
 
 use crate::m2m_queues::buffers::Buffers;
-use crate::m2m_queues::requests::{MOST_REQUESTS, Request};
+use crate::m2m_queues::requests::{MOST_REQUESTS, QueueRequest};
 use arrayvec::ArrayVec;
 use slab::Slab;
 use std::alloc::{AllocError, Global};
@@ -17,7 +17,7 @@ use std::marker::Model;
 /// The requests and buffers of a decoder. Clauses see them as a plain record.
 #[derive(Drop)]
 pub struct Queues<C> {
-    requests: Slab<Request<C>>,
+    requests: Slab<QueueRequest<C>>,
     order: ArrayVec<usize, MOST_REQUESTS>,
     outputs: Buffers,
     captures: Buffers,
@@ -25,7 +25,7 @@ pub struct Queues<C> {
 
 impl<C> Model for Queues<C> {
     ghost use Rattle.stand_in_device.specs.Machine.{Machine};
-    ghost use Rattle.stand_in_device.specs.Kept.{IsKept};
+    ghost use Rattle.stand_in_device.specs.Invariants.{IsSound};
 
     ghost Value = { Machine C };
 
@@ -36,7 +36,7 @@ impl<C> Model for Queues<C> {
       captures = q.captures;
     } };
 
-    ghost invariant = { λ q. IsKept q.requests q.order.items };
+    ghost invariant = { λ q. IsSound q.requests q.order.items };
 }
 
 impl<C: Drop> Queues<C> {

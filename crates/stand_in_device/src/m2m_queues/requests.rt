@@ -38,7 +38,7 @@ pub struct Output {
 
 /// A request, and what is bound to it. A complete one has neither controls nor a buffer.
 #[derive(Debug, Drop)]
-pub struct Request<C> {
+pub struct QueueRequest<C> {
     pub state: RequestState,
     /// The slice's controls.
     pub controls: Option<C>,
@@ -46,12 +46,12 @@ pub struct Request<C> {
     pub output: Option<Output>,
 }
 
-impl<C> Request<C> {
+impl<C> QueueRequest<C> {
     /// A request to which nothing is bound.
-    pub(crate) fn empty(state: RequestState) -> Request<C>
+    pub(crate) fn empty(state: RequestState) -> QueueRequest<C>
         ensures { result ≡ empty_request state }
     {
-        Request {
+        QueueRequest {
             state,
             controls: None,
             output: None,

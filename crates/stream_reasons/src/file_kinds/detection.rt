@@ -2,12 +2,13 @@
 
 ghost use Rattle.std.specs.Prelude.{◌≡◌, take};
 ghost use Rattle.stream_reasons.specs.Kinds.{coded_kind, kind_in, kind_of};
+ghost use Rattle.stream_reasons.specs.Plain.{is_text, is_text_byte, plain_kind};
 
 use crate::file_kinds::FileKind;
 use crate::file_kinds::headers::header_kind;
 use crate::file_kinds::lengths::is_length_prefixed;
-use crate::file_kinds::marks::container_kind;
-use crate::file_kinds::plain::plain_kind;
+use crate::file_kinds::signatures::container_kind;
+use annexb::first_unit;
 
 /// How many of a file's bytes tell its kind at most.
 pub const FIRST_BYTES: usize = 65_536;
@@ -51,4 +52,32 @@ fn coded_kind(bytes: &[u8]) -> FileKind
             None => plain_kind(bytes),
         }
     }
+}
+
+/// The kind of such bytes.
+pub(crate) fn plain_kind(bytes: &[u8]) -> FileKind
+    ensures { result ≡ plain_kind bytes.now }
+{
+    if first_unit(bytes).is_some() {
+        FileKind::H264AnnexB
+    } else if is_text(bytes) {
+        FileKind::Text
+    } else {
+        FileKind::Unknown
+    }
+}
+
+/// Whether all bytes are those of text.
+fn is_text(bytes: &[u8]) -> bool
+    ensures { result ≡ is_text bytes.now }
+{
+    bytes.iter().all(|byte| is_text_byte(*byte))
+}
+
+/// Whether it is no control character but a tab, a line feed, a form feed or a carriage return
+/// (IETF RFC 20, 5.2).
+fn is_text_byte(byte: u8) -> bool
+    ensures { result ≡ is_text_byte byte }
+{
+    matches!(byte, 9 | 10 | 12 | 13 | 32..=126 | 128..)
 }

@@ -2,14 +2,14 @@
 
 use crate::file_kinds::FileKind;
 use crate::file_kinds::headers::Header;
-use crate::file_kinds::marks::{Mark, Row};
+use crate::file_kinds::signatures::{Row, Signature};
 
 /// Files that bytes at places tell, the first that fits being meant.
 pub(crate) const CONTAINERS: [Row; 16] = [
     // ISO/IEC 14496-12, 4.3: the file type box.
     Row {
         kind: FileKind::Mp4,
-        marks: &[Mark {
+        signatures: &[Signature {
             at: 4,
             bytes: b"ftyp",
         }],
@@ -17,7 +17,7 @@ pub(crate) const CONTAINERS: [Row; 16] = [
     // ISO/IEC 14496-12, 8.16.2: the segment type box.
     Row {
         kind: FileKind::Mp4,
-        marks: &[Mark {
+        signatures: &[Signature {
             at: 4,
             bytes: b"styp",
         }],
@@ -25,9 +25,9 @@ pub(crate) const CONTAINERS: [Row; 16] = [
     // Apple, QuickTime File Format Specification, "Movie Atoms": files from before ftyp.
     Row {
         kind: FileKind::Mp4,
-        marks: &[
-            Mark { at: 0, bytes: &[0] },
-            Mark {
+        signatures: &[
+            Signature { at: 0, bytes: &[0] },
+            Signature {
                 at: 4,
                 bytes: b"moov",
             },
@@ -36,7 +36,7 @@ pub(crate) const CONTAINERS: [Row; 16] = [
     // The same, "Movie Data Atoms"; ISO/IEC 14496-12, 8.1.1.
     Row {
         kind: FileKind::Mp4,
-        marks: &[Mark {
+        signatures: &[Signature {
             at: 4,
             bytes: b"mdat",
         }],
@@ -44,7 +44,7 @@ pub(crate) const CONTAINERS: [Row; 16] = [
     // The same, "The Wide Atom": eight bytes that keep room for a longer size.
     Row {
         kind: FileKind::Mp4,
-        marks: &[Mark {
+        signatures: &[Signature {
             at: 0,
             bytes: b"\x00\x00\x00\x08wide",
         }],
@@ -52,12 +52,12 @@ pub(crate) const CONTAINERS: [Row; 16] = [
     // ISO/IEC 14496-12, 8.1.2: free space, here of less than 65,536 bytes.
     Row {
         kind: FileKind::Mp4,
-        marks: &[
-            Mark {
+        signatures: &[
+            Signature {
                 at: 0,
                 bytes: &[0, 0],
             },
-            Mark {
+            Signature {
                 at: 4,
                 bytes: b"free",
             },
@@ -65,12 +65,12 @@ pub(crate) const CONTAINERS: [Row; 16] = [
     },
     Row {
         kind: FileKind::Mp4,
-        marks: &[
-            Mark {
+        signatures: &[
+            Signature {
                 at: 0,
                 bytes: &[0, 0],
             },
-            Mark {
+            Signature {
                 at: 4,
                 bytes: b"skip",
             },
@@ -79,7 +79,7 @@ pub(crate) const CONTAINERS: [Row; 16] = [
     // IETF RFC 8794, 11.2.1: the id of the EBML element; RFC 9559, 4: Matroska begins with it.
     Row {
         kind: FileKind::Matroska,
-        marks: &[Mark {
+        signatures: &[Signature {
             at: 0,
             bytes: &[0x1A, 0x45, 0xDF, 0xA3],
         }],
@@ -87,12 +87,12 @@ pub(crate) const CONTAINERS: [Row; 16] = [
     // Microsoft, "AVI RIFF File Reference".
     Row {
         kind: FileKind::Avi,
-        marks: &[
-            Mark {
+        signatures: &[
+            Signature {
                 at: 0,
                 bytes: b"RIFF",
             },
-            Mark {
+            Signature {
                 at: 8,
                 bytes: b"AVI ",
             },
@@ -101,7 +101,7 @@ pub(crate) const CONTAINERS: [Row; 16] = [
     // Adobe Flash Video File Format Specification 10.1, E.2: the signature and version 1.
     Row {
         kind: FileKind::Flv,
-        marks: &[Mark {
+        signatures: &[Signature {
             at: 0,
             bytes: b"FLV\x01",
         }],
@@ -109,7 +109,7 @@ pub(crate) const CONTAINERS: [Row; 16] = [
     // WebM project, libvpx, ivfenc.c: the signature of an IVF file's header.
     Row {
         kind: FileKind::Ivf,
-        marks: &[Mark {
+        signatures: &[Signature {
             at: 0,
             bytes: b"DKIF",
         }],
@@ -117,7 +117,7 @@ pub(crate) const CONTAINERS: [Row; 16] = [
     // MJPEG tools, yuv4mpeg(5): the word of a stream's header.
     Row {
         kind: FileKind::Y4m,
-        marks: &[Mark {
+        signatures: &[Signature {
             at: 0,
             bytes: b"YUV4MPEG2",
         }],
@@ -125,7 +125,7 @@ pub(crate) const CONTAINERS: [Row; 16] = [
     // IETF RFC 3533, 6: the capture pattern of a page.
     Row {
         kind: FileKind::Ogg,
-        marks: &[Mark {
+        signatures: &[Signature {
             at: 0,
             bytes: b"OggS",
         }],
@@ -133,7 +133,7 @@ pub(crate) const CONTAINERS: [Row; 16] = [
     // ITU-T H.222.0, 2.5.3.4: pack_start_code.
     Row {
         kind: FileKind::MpegProgramStream,
-        marks: &[Mark {
+        signatures: &[Signature {
             at: 0,
             bytes: &[0, 0, 1, 0xBA],
         }],
@@ -141,16 +141,16 @@ pub(crate) const CONTAINERS: [Row; 16] = [
     // ITU-T H.222.0, 2.4.3.2: sync_byte, in each packet of 188 bytes; three of them.
     Row {
         kind: FileKind::MpegTransportStream,
-        marks: &[
-            Mark {
+        signatures: &[
+            Signature {
                 at: 0,
                 bytes: &[0x47],
             },
-            Mark {
+            Signature {
                 at: 188,
                 bytes: &[0x47],
             },
-            Mark {
+            Signature {
                 at: 376,
                 bytes: &[0x47],
             },
@@ -159,16 +159,16 @@ pub(crate) const CONTAINERS: [Row; 16] = [
     // Blu-ray Disc Association, white paper 2.B: the same with four bytes before each packet.
     Row {
         kind: FileKind::MpegTransportStream,
-        marks: &[
-            Mark {
+        signatures: &[
+            Signature {
                 at: 4,
                 bytes: &[0x47],
             },
-            Mark {
+            Signature {
                 at: 196,
                 bytes: &[0x47],
             },
-            Mark {
+            Signature {
                 at: 388,
                 bytes: &[0x47],
             },

@@ -17,8 +17,7 @@ ghost use Rattle.decode_jobs.specs.Inputs.{is_whole};
 
 use super::Session;
 use crate::doubting::doubts_of;
-use crate::refusals::NoSuchUnit;
-use crate::showing::Shown;
+use crate::showing::{NoSuchUnit, Shown};
 use decode_jobs::dep_keys::KeyId;
 use decode_jobs::{Decoded, Input};
 use h264_types::base::Shared;
@@ -26,13 +25,13 @@ use h264_types::pictures::AuId;
 use output_order::Comparisons;
 use picture_keys::HashedOutcome;
 use std::alloc::AllocError;
-use stream_edits::{JournalEntry, Last, Place};
+use stream_edits::{InsertionPoint, JournalEntry, Last};
 use unit_outcomes::Outcome;
 use unit_outcomes::doubts::Doubt;
 
 impl<P: Decoded> Session<P> {
     /// The place after all units, at which a unit is appended.
-    pub fn end(&self) -> Place
+    pub fn end(&self) -> InsertionPoint
         ensures value { result ≡ end_of self.now.register.stream }
         ensures stands { start_of self.now.register.stream result
             ≡ Some (length self.now.register.stream) }
@@ -127,8 +126,8 @@ impl<P: Decoded> Session<P> {
 
     /// Of so many units from a place of the stream on, the break that each follows, and whether its
     /// picture is in doubt: whether it may be made of other frames than its encoder meant. It takes
-    /// a time that grows with the units from the last valid IDR picture before the stretch on, up
-    /// to the stretch's end.
+    /// a time that grows with the units from the last valid IDR picture before the range on, up
+    /// to the range's end.
     pub fn doubts(&self, from: usize, count: usize) -> Result<Vec<Doubt>, AllocError>
         requires { from + count ≤ length self.now.register.stream }
         ensures { IfOk result (λ doubts.

@@ -6,6 +6,22 @@ ghost use Rattle.unit_printing.specs.declared.json.json_line.JsonLine.{JsonLine 
 use crate::json::json_line::JsonLine;
 use std::alloc::{AllocError, Global};
 
+/// enum v4l2_stateless_h264_decode_mode: what one request asks a decoder for.
+#[derive(Clone, Copy, Debug, PartialEq, Eq)]
+pub enum DecodeMode {
+    /// V4L2_STATELESS_H264_DECODE_MODE_SLICE_BASED: a slice.
+    SliceBased,
+    /// V4L2_STATELESS_H264_DECODE_MODE_FRAME_BASED: a picture.
+    FrameBased,
+}
+
+/// How units are printed: by this encoder, with the requests for a decoder of this mode.
+#[derive_where(Clone, Copy)]
+pub struct JsonForm<'a, J> {
+    pub encoder: &'a J,
+    pub mode: DecodeMode,
+}
+
 /// What writes lines as text.
 pub trait Encoder {
     // The text is that of the line; by default nothing is known of it.

@@ -1,7 +1,7 @@
 //! The fold over a stream's units.
 
 ghost use Rattle.std.specs.Prelude.{◌≡◌, ◌≤◌, length, IfOk};
-ghost use Rattle.access_unit.specs.Rooms.{most_units};
+ghost use Rattle.access_unit.specs.StreamUnits.{most_units};
 ghost use Rattle.request_core.specs.Fold.{outcomes_of};
 ghost use Rattle.unit_printing.specs.StreamLines.{numbered_from};
 

@@ -4,7 +4,9 @@ ghost use Rattle.std.specs.Prelude.{◌≡◌, option_map, IfOk};
 ghost use Rattle.frame_requests.specs.FrameRequests.{frame_request};
 ghost use Rattle.unit_printing.specs.FramesJson.{frame_json};
 
-use frame_requests::layouts::{DecodeParams, FrameControls, Pps, ScalingMatrix, Sps};
+use frame_requests::layouts::{
+    DecodeParamsLayout, FrameControlsLayout, PpsLayout, ScalingMatrixLayout, SpsLayout,
+};
 use frame_requests::{FrameRequest, frame_size};
 use h264_controls::Request;
 use serde::Serialize;
@@ -17,10 +19,10 @@ pub struct FrameJson {
     pub timestamp: u64,
     /// How many bytes the slices have, a start code of three bytes before each among them.
     pub bytes: usize,
-    pub v4l2_ctrl_h264_sps: Sps,
-    pub v4l2_ctrl_h264_pps: Pps,
-    pub v4l2_ctrl_h264_scaling_matrix: ScalingMatrix,
-    pub v4l2_ctrl_h264_decode_params: DecodeParams,
+    pub v4l2_ctrl_h264_sps: SpsLayout,
+    pub v4l2_ctrl_h264_pps: PpsLayout,
+    pub v4l2_ctrl_h264_scaling_matrix: ScalingMatrixLayout,
+    pub v4l2_ctrl_h264_decode_params: DecodeParamsLayout,
 }
 
 impl FrameJson {
@@ -40,7 +42,7 @@ impl FrameJson {
         ensures { IfOk result (λ object. object ≡ frame_json slices.now frame.now) }
     {
         let bytes = frame_size(slices).ok_or(AllocError)?;
-        let controls = FrameControls::of(frame);
+        let controls = FrameControlsLayout::of(frame);
         Ok(FrameJson {
             timestamp: frame.timestamp,
             bytes,

@@ -1,9 +1,9 @@
 //! A line of JSON.
 
 ghost use Rattle.std.specs.Prelude.{◌≡◌, IfOk};
-ghost use Rattle.unit_printing.specs.JsonLines.{counts_json, head_json, no_unit_line, plan_line, refused_line, told_line};
+ghost use Rattle.unit_printing.specs.JsonLines.{counts_json, head_json, no_unit_line, plan_line, refused_line, unit_line};
 
-use crate::json::decode_mode::DecodeMode;
+use crate::json::encoding::DecodeMode;
 use crate::json::frame_json::FrameJson;
 use crate::json::numbered::{write_fault, write_refusal};
 use crate::json::request_json::RequestsJson;
@@ -97,30 +97,30 @@ pub struct CountsJson {
 impl JsonLine {
     /// The line of a unit, with the requests that a decoder of this mode takes, by its outcome, its
     /// place in output order, which each plan has, and what is told of its doubt.
-    pub fn of_told(
+    pub fn of_unit(
         alloc: Global,
         mode: DecodeMode,
         id: AuId,
         position: Option<usize>,
         outcome: &Outcome,
-        told: Doubt,
+        doubt: Doubt,
     ) -> Result<JsonLine, AllocError>
-        ensures { IfOk result (λ line. line ≡ told_line mode id position outcome.now told) }
+        ensures { IfOk result (λ line. line ≡ unit_line mode id position outcome.now doubt) }
     {
         match outcome {
             Outcome::Plan(plan) => {
                 let position = position.unwrap_or_default();
-                JsonLine::of_plan(alloc, mode, HeadJson::of(id, position, plan, told), plan)
+                JsonLine::of_plan(alloc, mode, HeadJson::of(id, position, plan, doubt), plan)
             }
             Outcome::Fault(fault) => Ok(JsonLine::Fault {
                 unit: id.number(),
                 fault: *fault,
-                follows: number_of(told.follows),
+                follows: number_of(doubt.follows),
             }),
             Outcome::Empty => Ok(JsonLine::NoPicture {
                 unit: id.number(),
                 no_picture: true,
-                follows: number_of(told.follows),
+                follows: number_of(doubt.follows),
             }),
         }
     }
@@ -167,16 +167,16 @@ impl JsonLine {
 
 impl HeadJson {
     /// What stands before the requests of the plan of a unit.
-    pub fn of(id: AuId, position: usize, plan: &Plan, told: Doubt) -> HeadJson
-        ensures { result ≡ head_json id position plan.now told }
+    pub fn of(id: AuId, position: usize, plan: &Plan, doubt: Doubt) -> HeadJson
+        ensures { result ≡ head_json id position plan.now doubt }
     {
         HeadJson {
             unit: id.number(),
             position,
             begins_period: plan.begins_period,
             counts: CountsJson::of(plan.counts),
-            follows: number_of(told.follows),
-            in_doubt: told.in_doubt,
+            follows: number_of(doubt.follows),
+            in_doubt: doubt.in_doubt,
         }
     }
 }

@@ -1,12 +1,12 @@
 //! The lines of a stream.
 
 ghost use Rattle.std.specs.Prelude.{◌≡◌, ◌≤◌, length, IsErrOf, OnOk};
-ghost use Rattle.access_unit.specs.Rooms.{most_units};
+ghost use Rattle.access_unit.specs.StreamUnits.{most_units};
 ghost use Rattle.unit_printing.specs.StreamLines.{json_lines};
 ghost use Rattle.unit_printing.specs.Said.{AreSaid, Said, SaysStream};
 
+use crate::json::doubts::doubts_of_units;
 use crate::json::folding::fold;
-use crate::json::telling::told;
 use crate::json::{Encoder, JsonForm, JsonLine};
 use access_unit::Unit;
 use console_io::{PrintFault, Sink, write_bytes};
@@ -29,8 +29,8 @@ pub(crate) fn print_stream<J: Encoder, W: Sink>(
 {
     let outcomes = fold(alloc, units)?;
     let positions = output_order::positions(alloc, &outcomes)?;
-    let told = told(alloc, units, &outcomes)?;
-    print_units(alloc, form, &outcomes, &positions, &told, writer)
+    let doubts = doubts_of_units(alloc, units, &outcomes)?;
+    print_units(alloc, form, &outcomes, &positions, &doubts, writer)
 }
 
 /// Prints the line of each unit by its outcome and what is told of it, with ids from 1 on.
@@ -39,21 +39,21 @@ fn print_units<J: Encoder, W: Sink>(
     form: JsonForm<'_, J>,
     outcomes: &[Outcome],
     positions: &[Option<usize>],
-    told: &[Doubt],
+    doubts: &[Doubt],
     writer: &mut W,
 ) -> Result<(), PrintFault>
     requires positions { length positions.now ≡ length outcomes.now }
-    requires told { length told.now ≡ length outcomes.now }
+    requires doubts { length doubts.now ≡ length outcomes.now }
     requires few { length outcomes.now ≤ most_units }
     ensures ok { OnOk result (AreSaid J.says
-        (json_lines form.entry.mode 1 outcomes.now positions.now told.now)
+        (json_lines form.entry.mode 1 outcomes.now positions.now doubts.now)
         (W.contents writer.old) (W.contents writer.new)) }
     ensures refused { IsErrOf result PrintFault.Unwritten → W.refuses writer.new }
 {
     for (place, outcome) in outcomes.iter().enumerate() {
         let id = AuId::new(place as u32 + 1);
-        let (position, told) = (positions[place], told[place]);
-        let line = JsonLine::of_told(alloc, form.mode, id, position, outcome, told)?;
+        let (position, doubt) = (positions[place], doubts[place]);
+        let line = JsonLine::of_unit(alloc, form.mode, id, position, outcome, doubt)?;
         print_line(alloc, form.encoder, &line, writer)?;
     }
     Ok(())

@@ -4,7 +4,10 @@ ghost use Rattle.std.specs.Prelude.{◌≡◌, map, option_map, IfOk};
 ghost use Rattle.frame_requests.specs.PredWeightsLayout.{pred_weights_layout};
 ghost use Rattle.unit_printing.specs.RequestsJson.{request_json};
 
-use frame_requests::layouts::{DecodeParams, Pps, PredWeights, ScalingMatrix, SliceParams, Sps};
+use frame_requests::layouts::{
+    DecodeParamsLayout, PpsLayout, PredWeightsLayout, ScalingMatrixLayout, SliceParamsLayout,
+    SpsLayout,
+};
 use h264_controls::{Request, V4l2CtrlH264PredWeights};
 use h264_types::base::Shared;
 use serde::Serialize;
@@ -20,13 +23,13 @@ pub struct RequestJson {
     pub hold_capture_buf: bool,
     /// How many bytes the slice has, its start code of three bytes among them.
     pub bytes: usize,
-    pub v4l2_ctrl_h264_sps: Sps,
-    pub v4l2_ctrl_h264_pps: Pps,
-    pub v4l2_ctrl_h264_scaling_matrix: ScalingMatrix,
+    pub v4l2_ctrl_h264_sps: SpsLayout,
+    pub v4l2_ctrl_h264_pps: PpsLayout,
+    pub v4l2_ctrl_h264_scaling_matrix: ScalingMatrixLayout,
     #[serde(skip_serializing_if = "Option::is_none")]
-    pub v4l2_ctrl_h264_pred_weights: Option<PredWeights>,
-    pub v4l2_ctrl_h264_slice_params: SliceParams,
-    pub v4l2_ctrl_h264_decode_params: DecodeParams,
+    pub v4l2_ctrl_h264_pred_weights: Option<PredWeightsLayout>,
+    pub v4l2_ctrl_h264_slice_params: SliceParamsLayout,
+    pub v4l2_ctrl_h264_decode_params: DecodeParamsLayout,
 }
 
 /// The requests of a unit's slices, in order.
@@ -55,12 +58,12 @@ impl RequestJson {
             timestamp: request.timestamp,
             hold_capture_buf: request.hold,
             bytes: request.bytes().len(),
-            v4l2_ctrl_h264_sps: Sps::of(&controls.sets.sps),
-            v4l2_ctrl_h264_pps: Pps::of(&controls.sets.pps),
-            v4l2_ctrl_h264_scaling_matrix: ScalingMatrix::of(&controls.sets.scaling_matrix),
+            v4l2_ctrl_h264_sps: SpsLayout::of(&controls.sets.sps),
+            v4l2_ctrl_h264_pps: PpsLayout::of(&controls.sets.pps),
+            v4l2_ctrl_h264_scaling_matrix: ScalingMatrixLayout::of(&controls.sets.scaling_matrix),
             v4l2_ctrl_h264_pred_weights: pred_weights(&controls.pred_weights),
-            v4l2_ctrl_h264_slice_params: SliceParams::of(&controls.slice_params),
-            v4l2_ctrl_h264_decode_params: DecodeParams::of(
+            v4l2_ctrl_h264_slice_params: SliceParamsLayout::of(&controls.slice_params),
+            v4l2_ctrl_h264_decode_params: DecodeParamsLayout::of(
                 &controls.decode_params,
                 &request.references,
             ),
@@ -69,11 +72,11 @@ impl RequestJson {
 }
 
 /// The struct of the weights, if there are any.
-fn pred_weights(weights: &Option<Shared<V4l2CtrlH264PredWeights>>) -> Option<PredWeights>
+fn pred_weights(weights: &Option<Shared<V4l2CtrlH264PredWeights>>) -> Option<PredWeightsLayout>
     ensures { result ≡ option_map pred_weights_layout weights.now }
 {
     match weights {
-        Some(weights) => Some(PredWeights::of(weights)),
+        Some(weights) => Some(PredWeightsLayout::of(weights)),
         None => None,
     }
 }

@@ -37,6 +37,6 @@ loop-nal-preserved c =
 pub loop-nal-init : goal.loop-nal-init
 loop-nal-init c = IsReadTo-first _ _ _ c.requires.has c.in_ok-parts.ensures
 
-pub keep-requires-clause-parts : goal.keep-requires-clause-parts
-keep-requires-clause-parts c =
+pub content_of-requires-clause-parts : goal.content_of-requires-clause-parts
+content_of-requires-clause-parts c =
     IsOfUnit-end _ _ _ c.loop-nal.invariant.added c.loop-nal-test.false _ c.requires

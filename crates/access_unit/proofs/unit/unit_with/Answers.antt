@@ -27,11 +27,11 @@ loop-nal-preserved c =
       text_is = loop.invariant.text_is;
     }
 
-pub keep-requires-clause-parts : goal.keep-requires-clause-parts
-keep-requires-clause-parts c =
+pub content_of-requires-clause-parts : goal.content_of-requires-clause-parts
+content_of-requires-clause-parts c =
     IsOfUnit-end _ _ _ c.loop-nal.invariant.added c.loop-nal-test.false _ c.requires.short
 
-pub keep-requires-clause-text : goal.keep-requires-clause-text
-keep-requires-clause-text c =
+pub content_of-requires-clause-text : goal.content_of-requires-clause-text
+content_of-requires-clause-text c =
     let loop = c.loop-nal in
     rw (loop.invariant.added.stored.nals_are ∙ take_all loop.nal-index c.args.nals.now c.loop-nal-test.false) loop.invariant.text_is

@@ -1,9 +1,9 @@
 //! The bounded cache of pictures.
 
 ghost use Rattle.std.specs.Prelude.{◌≤◌};
-ghost use Rattle.held_pictures.specs.Bounded.{most_room};
+ghost use Rattle.held_pictures.specs.Bounded.{most_capacity};
 
-use held_pictures::picture_cache::{MOST_ROOM, PictureCache};
+use held_pictures::picture_cache::{MOST_CAPACITY, PictureCache};
 use std::alloc::{AllocError, Global};
 use std::test::Fail;
 
@@ -15,7 +15,7 @@ struct KeyId(u64);
 /// 30.
 fn three_pairs(alloc: Global, capacity: u16) -> Result<PictureCache<KeyId, u8>, AllocError>
     requires least { 1 ≤ capacity }
-    requires most { capacity ≤ most_room }
+    requires most { capacity ≤ most_capacity }
 {
     let mut cache = PictureCache::new(alloc, capacity)?;
     for (key, picture) in [(1, 10), (2, 20), (3, 30)] {
@@ -45,7 +45,7 @@ fn has_keys(
 
 #[test]
 fn the_pair_put_last_is_first(rt: HostRuntime) -> Result<(), Fail> {
-    let cache = three_pairs(rt.alloc(), MOST_ROOM)?;
+    let cache = three_pairs(rt.alloc(), MOST_CAPACITY)?;
     assert!(rt; has_keys(rt.alloc(), &cache, &[3, 2, 1])?);
     assert!(rt; cache.len() == 3);
     assert!(rt; cache.capacity() == 4096);

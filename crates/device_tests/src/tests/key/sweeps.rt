@@ -23,7 +23,7 @@ pub(super) fn are_live<F: Fingerprint<Number>>(
 /// Whether the key of row 9 has its work and its entries, the rows 3, 3 and 0.
 fn is_row_9<F: Fingerprint<Number>>(keys: &Keys<Number, F>, ids: &[KeyId], root: KeyId) -> bool {
     match keys.node(root) {
-        Some(node) => node.work().number == 4 && are_entries(node.entries(), ids),
+        Some(node) => node.content().number == 4 && are_entries(node.entries(), ids),
         None => false,
     }
 }

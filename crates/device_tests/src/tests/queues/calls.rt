@@ -2,8 +2,8 @@
 
 use bytes::Bytes;
 use stand_in_device::m2m_queues::{
-    Buffer, BufferState, Dequeued, QueueFault, Queues, RequestId, RequestState, RunOne, SliceWork,
-    Target,
+    Buffer, BufferState, Dequeued, QueueFault, Queues, RequestId, RequestState, RunOne,
+    SliceDecoder, Target,
 };
 use std::alloc::AllocError;
 
@@ -40,7 +40,7 @@ pub(super) enum Answer {
     Refused(QueueFault),
 }
 
-/// A slice as the work was given it.
+/// A slice as the recorder was given it.
 #[derive(Clone, Copy, Debug, PartialEq, Eq)]
 pub(super) struct Slice {
     pub(super) controls: u32,
@@ -67,8 +67,8 @@ impl Recorder {
     }
 }
 
-impl SliceWork<u32> for Recorder {
-    ghost works = { λ _ _ _. Unit {0} };
+impl SliceDecoder<u32> for Recorder {
+    ghost decodes = { λ _ _ _. Unit {0} };
 
     fn slice(
         &mut self,
@@ -113,7 +113,7 @@ fn holds(outcome: Result<Buffer, QueueFault>) -> Answer {
 }
 
 /// What a call on requests answers; any other is one on buffers.
-pub(super) fn make_call(queues: &mut Queues<u32>, work: &mut Recorder, call: Call) -> Answer {
+pub(super) fn make_call(queues: &mut Queues<u32>, recorder: &mut Recorder, call: Call) -> Answer {
     match call {
         Call::Alloc => match queues.alloc_request() {
             Ok(request) => Answer::Given(request.0),
@@ -129,7 +129,7 @@ pub(super) fn make_call(queues: &mut Queues<u32>, work: &mut Recorder, call: Cal
             Ok(state) => Answer::IsIn(state),
             Err(fault) => Answer::Refused(fault),
         },
-        Call::Run => match queues.run_one(work) {
+        Call::Run => match queues.run_one(recorder) {
             Ok(did) => Answer::Did(did),
             Err(fault) => Answer::Refused(fault),
         },
@@ -156,11 +156,11 @@ fn answer_of_buffers(queues: &mut Queues<u32>, call: Call) -> Answer {
 /// Each call in turn has the answer beside it.
 pub(super) fn are_answered(
     queues: &mut Queues<u32>,
-    work: &mut Recorder,
+    recorder: &mut Recorder,
     calls: &[(Call, Answer)],
 ) -> bool {
     for (call, expected) in calls {
-        if make_call(queues, work, *call) != *expected {
+        if make_call(queues, recorder, *call) != *expected {
             return false;
         }
     }

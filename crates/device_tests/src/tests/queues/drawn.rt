@@ -54,7 +54,7 @@ fn call(draws: &mut Draws, requests: u64) -> Call {
 #[derive(Drop)]
 struct Pair {
     queues: Queues<u32>,
-    work: Recorder,
+    recorder: Recorder,
     plain: PlainQueues,
     ran: u32,
     released: u32,
@@ -64,15 +64,17 @@ struct Pair {
 impl Pair {
     /// Makes a call of both, and says whether they answer the same and worked on the same slices.
     fn agrees(&mut self, call: Call, is_full: bool) -> bool {
-        self.work.is_full = is_full;
+        self.recorder.is_full = is_full;
         self.plain.is_full = is_full;
-        let answer = make_call(&mut self.queues, &mut self.work, call);
+        let answer = make_call(&mut self.queues, &mut self.recorder, call);
         let is_right = match call {
             Call::Alloc => self.plain.allocates(answer),
             _ => self.plain.answer(call) == answer,
         };
         self.count(call, answer);
-        is_right && self.work.slices == self.plain.slices && self.work.last == self.plain.last
+        is_right
+            && self.recorder.slices == self.plain.slices
+            && self.recorder.last == self.plain.last
     }
 
     /// Counts an answer, but for those of calls that only look.
@@ -119,7 +121,7 @@ impl Pair {
 fn drawn_calls_are_answered_as_by_a_plain_machine(rt: HostRuntime) -> Result<(), Fail> {
     let mut pair = Pair {
         queues: Queues::new(rt.alloc(), BUFFERS, BUFFERS)?,
-        work: Recorder::new(),
+        recorder: Recorder::new(),
         plain: PlainQueues::new(),
         ran: 0,
         released: 0,

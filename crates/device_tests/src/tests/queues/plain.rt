@@ -41,7 +41,7 @@ pub(super) struct PlainQueues {
     requests: [Option<PlainRequest>; MOST_REQUESTS],
     outputs: [PlainBuffer; BUFFERS],
     captures: [PlainBuffer; BUFFERS],
-    /// Whether the work on a slice runs out of memory.
+    /// Whether the recorder on a slice runs out of memory.
     pub(super) is_full: bool,
     /// How many slices were worked on.
     pub(super) slices: u32,

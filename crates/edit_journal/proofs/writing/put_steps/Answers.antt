@@ -2,7 +2,7 @@ use Rattle.std.proofs.Common.{◌≡◌, ◌+◌, ◌++◌, ◌∷◌, [], List,
 use Rattle.std.proofs.lemmas.List.{take_more, take_all, length-take-le}
 use Rattle.std.proofs.lemmas.Result.{err_from_is_err_and}
 use Rattle.sqlite_trees.specs.View.{IsClean, View}
-use Rattle.edit_journal.specs.declared.line.Step.{Step}
+use Rattle.edit_journal.specs.declared.line.RowStep.{RowStep}
 use Rattle.edit_journal.specs.Lines.{Keeps, edit_tree, lines_of}
 use Rattle.edit_journal.proofs.ViewLemmas.{Puts, puts_nothing, puts_more, quiet_same, quiet_then, writes_keep, written_keeps, on_err}
 use Rattle.edit_journal.proofs.FaultLemmas.{fails_large, fails_later, row_fits}
@@ -59,7 +59,7 @@ loop-step-preserved g c =
       puts = λ clean.
           let early : IsClean now = omega (arith, c.put_step.ensures.quiet.clean, clean) in
           let more : take l.step-index steps ++ item ∷ [] ≡ take (l.step-index + 1) steps =
-          ap (λ (x : Step). take l.step-index steps ++ x ∷ []) c.step-item.is ∙ sym (take_more steps l.step-index item c.loop-step-test.true) in
+          ap (λ (x : RowStep). take l.step-index steps ++ x ∷ []) c.step-item.is ∙ sym (take_more steps l.step-index item c.loop-step-test.true) in
           subst (Puts old new c.args.rows c.args.entry) more
           (puts_more old now new c.args.rows c.args.entry (take l.step-index steps) item c.in-Some.number _ (omega (arith, long, l.invariant.count)) (omega (arith, count, long)) (l.invariant.puts early)
           (c.in_ok-put_step.ensures.puts clean));
@@ -69,7 +69,7 @@ loop-step-preserved g c =
 
 pub returns-clause-puts : goal.returns-clause-puts
 returns-clause-puts g c clean lines keeps count =
-    subst (λ (steps : List Step). Keeps (g.S.Store.view c.loop-step.store).trees (lines ++ lines_of c.args.entry steps)) (take_all c.loop-step.step-index c.args.steps.now c.loop-step-test.false)
+    subst (λ (steps : List RowStep). Keeps (g.S.Store.view c.loop-step.store).trees (lines ++ lines_of c.args.entry steps)) (take_all c.loop-step.step-index c.args.steps.now c.loop-step-test.false)
     ((c.loop-step.invariant.puts clean).keeps lines keeps count)
 
 pub returns-clause-writes : goal.returns-clause-writes

@@ -56,7 +56,7 @@ fn shorten(states: &mut Checkpoints<u32>, low: usize, high: usize, by: usize)
 fn place_zero_is_there_from_the_start(rt: HostRuntime) -> Result<(), Fail> {
     let states = Checkpoints::new(rt.alloc(), 7u8)?;
     assert!(rt; states.len() == 1);
-    assert!(rt; states.room() == 0);
+    assert!(rt; states.spare() == 0);
     assert!(rt; states.before(usize::MAX).place == 0);
     assert!(rt; *states.before(0).state == 7);
     assert!(rt; states.last().place == 0);
@@ -114,13 +114,13 @@ fn room_is_for_new_places(rt: HostRuntime) -> Result<(), Fail> {
     let mut states = Checkpoints::new(rt.alloc(), 1000)?;
     states.reserve(3)?;
     states.reserve(2)?;
-    assert!(rt; states.room() == 3);
+    assert!(rt; states.spare() == 3);
     for place in [10, 10, 20, 0, 30, 40] {
-        if states.room() > 0 {
+        if states.spare() > 0 {
             states.put(place, 1);
         }
     }
-    assert!(rt; states.room() == 0);
+    assert!(rt; states.spare() == 0);
     assert!(rt;
         listed(rt.alloc(), &states)?.as_slice() == [(0, 1), (10, 1), (20, 1), (30, 1)].as_slice()
     );
@@ -144,7 +144,7 @@ fn moves_up(rt: HostRuntime) -> Result<(), Fail> {
 #[test]
 fn moves_down_after_a_cut(rt: HostRuntime) -> Result<(), Fail> {
     let mut states = four_states(rt.alloc())?;
-    // A stretch of 40 units past the first 20 becomes one of 9.
+    // A range of 40 units past the first 20 becomes one of 9.
     shorten(&mut states, 20, 60, 31);
     assert!(rt;
         listed(rt.alloc(), &states)?.as_slice() == [(0, 1000), (33, 1064), (65, 1096)].as_slice()
@@ -184,18 +184,18 @@ fn refused_growth_leaves_the_states(rt: HostRuntime) {
         return;
     };
     if states.reserve(2).is_err() {
-        assert!(rt; states.room() == 0);
+        assert!(rt; states.spare() == 0);
         assert!(rt; states.len() == 1);
         return;
     }
     for place in [64, 32] {
-        if states.room() > 0 {
+        if states.spare() > 0 {
             states.put(place, 1);
         }
     }
     assert!(rt; states.len() == 3);
     let grew = states.reserve(100).is_ok();
-    assert!(rt; states.room() == (if grew { 100 } else { 0 }));
+    assert!(rt; states.spare() == (if grew { 100 } else { 0 }));
     assert!(rt; states.len() == 3);
     assert!(rt; states.before(63).place == 32);
     states.cut(0, 64);

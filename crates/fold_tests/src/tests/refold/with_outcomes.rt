@@ -64,7 +64,7 @@ impl StreamWithOutcomes {
     }
 }
 
-/// Puts the outcomes that a prepared change makes anew in the place of those of its stretch.
+/// Puts the outcomes that a prepared change makes anew in the place of those of its range.
 fn keep_anew(
     alloc: Global,
     outcomes: &mut Vec<Shared<HashedOutcome>>,

@@ -1,6 +1,6 @@
 use Rattle.std.proofs.Common.{◌≡◌, vec_len}
 use Rattle.std.specs.Vec.{vec_capacity}
-use Rattle.output_order.specs.Kept.{AreCounted}
+use Rattle.output_order.specs.PeriodLists.{AreCounted}
 use Rattle.output_order.proofs.counting.count_on.Given as goal
 
 abbrev pub invariant-loop : goal.invariant-loop

@@ -11,7 +11,7 @@ loop-index-preserved-in_default c =
     record {
       sorted = loop.invariant.sorted;
       permutation = put-fault c.args.place c.args.units.now c.args.keys.now.items loop.keys.items loop.index _ c.loop-index-test.true loop.invariant.permutation c.in_default.is;
-      room = omega (arith, loop.invariant.room);
+      spare = omega (arith, loop.invariant.spare);
       capacity = loop.invariant.capacity;
     }
 
@@ -25,6 +25,6 @@ loop-index-preserved c =
       sorted = c.insert.ensures.sorted;
       permutation = put-valid c.args.place c.args.units.now c.args.keys.now.items loop.keys.items loop.index _ c.loop-index-test.true loop.invariant.permutation
           shown c.insert.new.keys.items c.in-Some.is permutation;
-      room = omega (arith, loop.invariant.room, c.insert.ensures.len, c.insert.ensures.capacity, c.loop-index-test.true);
+      spare = omega (arith, loop.invariant.spare, c.insert.ensures.len, c.insert.ensures.capacity, c.loop-index-test.true);
       capacity = omega (arith, loop.invariant.capacity, c.insert.ensures.capacity);
     }

@@ -8,6 +8,6 @@ abbrev pub invariant-loop-index : goal.invariant-loop-index
 invariant-loop-index l = record {
   sorted : IsSortedBy is_first l.keys.items;
   permutation : IsPermutation (order_keys_from l.place (take l.index l.units) ++ l.initial.keys.items) l.keys.items;
-  room : vec_len l.keys + (length l.units - l.index) ≤ vec_capacity l.keys;
+  spare : vec_len l.keys + (length l.units - l.index) ≤ vec_capacity l.keys;
   capacity : vec_capacity l.initial.keys ≤ vec_capacity l.keys;
 }

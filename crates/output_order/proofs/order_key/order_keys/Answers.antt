@@ -10,7 +10,7 @@ loop-offset-preserved-in_default c =
     let loop = c.loop-offset in
     record {
       keys = keys-fault c.args.units.now loop.offset loop.keys.items _ c.loop-offset-test.true loop.invariant.keys c.in_default.is;
-      room = loop.invariant.room;
+      spare = loop.invariant.spare;
     }
 
 pub loop-offset-preserved : goal.loop-offset-preserved
@@ -22,5 +22,5 @@ loop-offset-preserved c =
       keys =
           rw (c.in_ok-push.ensures.items, to_z-of_z w32 shown.order fits)
           (keys-valid c.args.units.now loop.offset loop.keys.items _ c.loop-offset-test.true loop.invariant.keys shown c.in-Some.is);
-      room = omega (arith, loop.invariant.room, c.in_ok-push.ensures.capacity);
+      spare = omega (arith, loop.invariant.spare, c.in_ok-push.ensures.capacity);
     }

@@ -6,5 +6,5 @@ use Rattle.output_order.proofs.order_key.order_keys.Given as goal
 abbrev pub invariant-loop-offset : goal.invariant-loop-offset
 invariant-loop-offset l = record {
   keys : l.keys.items ≡ order_keys (take l.offset l.units);
-  room : l.room ≤ vec_capacity l.keys;
+  spare : l.spare ≤ vec_capacity l.keys;
 }

@@ -1,6 +1,6 @@
 use Rattle.std.proofs.Common.{◌-◌, set, ap, ◌∙◌, arith}
 use Rattle.std.proofs.lemmas.List.{length-take-le}
-use Rattle.output_order.specs.Kept.{changed_inside}
+use Rattle.output_order.specs.PeriodLists.{changed_inside}
 use Rattle.output_order.proofs.ChangedInside.{set-last}
 use Rattle.output_order.proofs.periods.change_last.Goals as goal
 

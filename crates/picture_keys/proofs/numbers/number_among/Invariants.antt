@@ -7,8 +7,8 @@ abbrev pub invariant-loop-at : goal.invariant-loop-at
 invariant-loop-at l =
     record {
       in_ids : l.at ≤ length l.ids;
-      in_found : l.at ≤ length l.found;
-      same : number_at (numbers_over [] l.ids l.found) l.id ≡ number_at (numbers_over [] (take l.at l.ids) (take l.at l.found)) l.id;
+      in_found : l.at ≤ length l.numbers;
+      same : number_at (numbers_over [] l.ids l.numbers) l.id ≡ number_at (numbers_over [] (take l.at l.ids) (take l.at l.numbers)) l.id;
     }
 
 abbrev pub decreases-loop-at : goal.decreases-loop-at

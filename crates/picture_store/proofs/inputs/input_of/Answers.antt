@@ -13,7 +13,7 @@ references_of-requires-clause-covered g c =
     c.deref-2.ensures.value ∙ (c.in_ok-units.ensures ∙ ap named_by_all c.as_slice-requests.ensures) in
     units_covered c.args.keys.now c.args.key c.in-Plan-Some.node.now c.in-Plan-Some.ensures c.args.outcome.now plan
     c.in-Plan-Some.is-0 c.requires.known.0 c.requires.known.1 c.deref-2.result.now c.entries.result.now units_are
-    c.entries.ensures c.args.places.now c.requires.right c.requires.ready
+    c.entries.ensures c.args.key_slots.now c.requires.right c.requires.ready
 
 pub references_of-requires-clause-least : goal.references_of-requires-clause-least
 references_of-requires-clause-least g c =
@@ -32,7 +32,7 @@ returns-clause-known g c = λ known has.
     let frames_are : c.deref.result.now ≡ frames_of plan.requests =
     c.deref.ensures.value ∙ (c.in_ok-frames.ensures ∙ ap frames_of c.as_slice-requests.ensures) in
     is_input c.args.keys.now c.args.key c.in-Plan-Some.node.now c.in-Plan-Some.ensures c.args.outcome.now plan
-    c.in-Plan-Some.is-0 known has c.deref-2.result.now c.entries.result.now units_are c.entries.ensures c.args.places.now
+    c.in-Plan-Some.is-0 known has c.deref-2.result.now c.entries.result.now units_are c.entries.ensures c.args.key_slots.now
     c.requires.right c.requires.ready c.in_ok-references.references.items c.in_ok-copies.field-0.items c.new.result
     c.in_ok-references.ensures.shown
     (c.in_ok-references.ensures.times
@@ -42,5 +42,5 @@ returns-clause-known g c = λ known has.
 pub returns-clause-held : goal.returns-clause-held
 returns-clause-held g c =
     rw (c.new.ensures)
-    (shown_among c.args.places.now c.deref-2.result.now c.entries.result.now c.in_ok-references.references.items
+    (shown_among c.args.key_slots.now c.deref-2.result.now c.entries.result.now c.in_ok-references.references.items
     c.in_ok-references.ensures.shown)

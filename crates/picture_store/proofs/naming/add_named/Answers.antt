@@ -15,7 +15,7 @@ returns-in_ok-push-clause-shown g c = λ before.
     let inside : at < length units = slice_get_within units at (Some c.args.frame) c.in-Some.ensures.named in
     let within : at < length entries = omega (arith, c.requires.least) in
     rw (c.in_ok-push.ensures.items, c.timestamp-timestamp.ensures)
-    (shown_more c.args.places.now units entries c.args.references.now.items before at c.args.frame
+    (shown_more c.args.key_slots.now units entries c.args.references.now.items before at c.args.frame
     c.index-entries-at.result c.in-Some-picture_in.picture c.in-Some.ensures.named
     (slice_get_read entries (length entries) at c.index-entries-at.result refl within c.index-entries-at.is) (sym c.picture_in.ensures ∙ c.in-Some-picture_in.is))
 
@@ -35,6 +35,6 @@ returns-in_default-picture_in-clause-times g c =
     let within : at < length entries = omega (arith, c.requires.least) in
     let entry_at : slice_get entries at ≡ Some c.index-entries-at.result =
     slice_get_read entries (length entries) at c.index-entries-at.result refl within c.index-entries-at.is in
-    absurd (none_shown (picture_in c.args.places.now c.index-entries-at.result)
+    absurd (none_shown (picture_in c.args.key_slots.now c.index-entries-at.result)
     (sym c.picture_in.ensures ∙ c.in_default-picture_in.is)
     (c.requires.covered c.args.frame c.index-entries-at.result (at, c.in-Some.ensures.named, entry_at)))

@@ -1,5 +1,5 @@
 use Rattle.std.proofs.Common.{arith}
-use Rattle.held_pictures.specs.Places.{numbers_held}
+use Rattle.held_pictures.specs.KeySlots.{numbers_held}
 use Rattle.std.proofs.lemmas.List.Sorted.{IsPermutation-append_left, IsPermutation-trans}
 use Rattle.picture_store.proofs.Using.{held_before, recounted}
 use Rattle.picture_store.proofs.recounting.recount.Goals as goal
@@ -11,13 +11,13 @@ let_go_all-requires-clause-enough g c = λ number.
 pub returns-clause-recounted : goal.returns-clause-recounted
 returns-clause-recounted g c = λ front goes back countable.
     let up = c.take_up_all.ensures.up in
-    let gone = rw (c.take_up_all.ensures.room) at
-    c.let_go_all.ensures.gone (numbers_held c.args.places.now)
-    (held_before c.args.places.now c.take_up_all.new.places c.args.cache.now.pairs front goes back c.args.later.now
+    let gone = rw (c.take_up_all.ensures.capacity) at
+    c.let_go_all.ensures.gone (numbers_held c.args.key_slots.now)
+    (held_before c.args.key_slots.now c.take_up_all.new.key_slots c.args.cache.now.pairs front goes back c.args.later.now
     c.args.leaving.now countable up) in
-    recounted c.args.places.now c.take_up_all.new.places c.args.cache.now.pairs front goes back c.args.later.now
+    recounted c.args.key_slots.now c.take_up_all.new.key_slots c.args.cache.now.pairs front goes back c.args.later.now
     c.args.leaving.now countable up c.take_up_all.new.cache.pairs c.take_up_all.ensures.left c.take_up_all.ensures.those
-    c.let_go_all.new.places c.let_go_all.ensures.uses c.let_go_all.ensures.stay c.args.cache.now.capacity
+    c.let_go_all.new.key_slots c.let_go_all.ensures.uses c.let_go_all.ensures.stay c.args.cache.now.capacity
     c.let_go_all.new.cache.pairs gone.0 gone.1 c.let_go_all.result gone.2 c.let_go_all.ensures.those
 
 pub returns-clause-accounts : goal.returns-clause-accounts

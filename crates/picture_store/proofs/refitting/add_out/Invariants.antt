@@ -1,5 +1,5 @@
 use Rattle.std.proofs.Common.{◌≡◌, ◌++◌, take}
-use Rattle.picture_store.specs.Kept.{numbers_out}
+use Rattle.picture_store.specs.Stored.{numbers_out}
 use Rattle.picture_store.proofs.refitting.add_out.Given as goal
 
 abbrev pub invariant-loop-job : goal.invariant-loop-job

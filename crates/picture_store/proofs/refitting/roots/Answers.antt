@@ -1,6 +1,6 @@
 use Rattle.std.proofs.Common.{◌++◌, ◌⊎◌, Contains, sym, subst, inl, inr}
 use Rattle.std.proofs.lemmas.List.Elements.{Contains-append_cases, Contains-append_left, Contains-append_right}
-use Rattle.picture_store.specs.Kept.{numbers_out, IsStored}
+use Rattle.picture_store.specs.Stored.{numbers_out, IsStored}
 use Rattle.picture_store.specs.Marks.{numbers_marked}
 use Rattle.picture_store.proofs.Swept.{only_added}
 use Rattle.picture_store.proofs.refitting.roots.Goals as goal

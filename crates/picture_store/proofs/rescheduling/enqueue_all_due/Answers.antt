@@ -13,7 +13,7 @@ loop-dependent-preserved g c =
     let index = c.loop-dependent.dependent-index in
     let item = c.dependent-item.result in
     let within = c.loop-dependent-test.true in
-    adds_more c.args.keys.now c.args.places.now c.args.out.now c.args.numbers.now
+    adds_more c.args.keys.now c.args.key_slots.now c.args.out.now c.args.numbers.now
     (λ at. (entry : ℕ) × WaitsFor (take index freed) at entry) (λ at. item.at ≡ at)
     (λ at. (entry : ℕ) × WaitsFor (take (index + 1) freed) at entry) (heap_items c.args.queue.now)
     (heap_items c.loop-dependent.queue) (heap_items c.enqueue_due.new.queue) c.loop-dependent.invariant
@@ -32,6 +32,6 @@ loop-dependent-preserved g c =
 
 pub returns : goal.returns
 returns g c =
-    subst (λ (xs : List Dependent). AddsDue c.args.keys.now c.args.places.now c.args.out.now c.args.numbers.now
+    subst (λ (xs : List Dependent). AddsDue c.args.keys.now c.args.key_slots.now c.args.out.now c.args.numbers.now
     (λ at. (entry : ℕ) × WaitsFor xs at entry) (heap_items c.args.queue.now) (heap_items c.loop-dependent.queue))
     (take_all c.loop-dependent.dependent-index c.args.freed.now c.loop-dependent-test.false) c.loop-dependent.invariant

@@ -6,5 +6,5 @@ use Rattle.picture_store.proofs.rescheduling.enqueue_all_due.Given as goal
 -- the places so far came into the queue
 abbrev pub invariant-loop-dependent : goal.invariant-loop-dependent
 invariant-loop-dependent g l =
-    AddsDue l.keys l.places l.out l.numbers (λ at. (entry : ℕ) × WaitsFor (take l.dependent-index l.freed) at entry)
+    AddsDue l.keys l.key_slots l.out l.numbers (λ at. (entry : ℕ) × WaitsFor (take l.dependent-index l.freed) at entry)
     (heap_items l.fn.queue) (heap_items l.queue)

@@ -18,7 +18,7 @@ returns g c =
     rw c.in_ok-target.was (
       refl,
       refl,
-      adds_same c.args.keys.now c.args.places.now c.args.out.now c.args.numbers.now (λ at. (entry : ℕ) × WaitsFor freed at entry)
+      adds_same c.args.keys.now c.args.key_slots.now c.args.out.now c.args.numbers.now (λ at. (entry : ℕ) × WaitsFor freed at entry)
           (λ at. WaitsFor old.dependents.items at c.args.key) (heap_items old.queue) (heap_items c.enqueue_all_due.new.queue)
           (λ at those.
           let both = (waits (record { entry = those.0; at = at })).0 those.1 in

@@ -22,7 +22,7 @@ loop-entry-preserved g c =
       all = λ entry among not. elim (in_more entries c.loop-entry.entry-index item (Some entry) c.loop-entry-test.true among) [
         | inl earlier ↦ adds.stay c.args.at entry (was.all entry earlier not)
         | inr here ↦
-            subst (λ o. IfSome o (λ number. (IsHeld c.args.places.now number → ⊥) → WaitsFor after c.args.at number))
+            subst (λ o. IfSome o (λ number. (IsHeld c.args.key_slots.now number → ⊥) → WaitsFor after c.args.at number))
             (c.entry-item.is ∙ here) adds.all not
       ];
     }

@@ -10,6 +10,6 @@ invariant-loop-entry g l =
       stay : (place entry : ℕ) → WaitsFor l.fn.dependents.items place entry → WaitsFor l.dependents.items place entry;
       only : (place entry : ℕ) → WaitsFor l.dependents.items place entry
           → WaitsFor l.fn.dependents.items place entry ⊎ (l.at ≡ place);
-      all : (entry : ℕ) → Contains (take l.entry-index l.entries) (Some entry) → (IsHeld l.places entry → ⊥)
+      all : (entry : ℕ) → Contains (take l.entry-index l.entries) (Some entry) → (IsHeld l.key_slots entry → ⊥)
           → WaitsFor l.dependents.items l.at entry;
     }

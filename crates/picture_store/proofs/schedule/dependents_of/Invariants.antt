@@ -8,6 +8,6 @@ abbrev pub invariant-loop-at : goal.invariant-loop-at
 invariant-loop-at g l =
     record {
       listed : (at entry : ℕ) → Contains (take l.at-index l.needed) at → RefersTo l.units.keys.now l.units.numbers.now at entry
-          → (IsHeld l.units.places.now entry → ⊥) → WaitsFor l.dependents.items at entry;
+          → (IsHeld l.units.key_slots.now entry → ⊥) → WaitsFor l.dependents.items at entry;
       those : (at entry : ℕ) → WaitsFor l.dependents.items at entry → Contains l.needed at;
     }

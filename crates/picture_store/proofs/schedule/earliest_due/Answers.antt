@@ -29,9 +29,9 @@ loop-top-preserved g c =
           elim (left_queued queue after c.pop.result _ c.pop.ensures.unchanged c.pop.ensures.permutation top
           c.in-Some.ensures.item.3.1 c.pop.ensures.top at (was.stay at is due)) [
             | inl same ↦
-                absurd (not_there c.args.keys.now c.args.places.now c.args.out.now c.args.numbers.now top.0 c.key_at.result
+                absurd (not_there c.args.keys.now c.args.key_slots.now c.args.out.now c.args.numbers.now top.0 c.key_at.result
                 (λ n number_is. (c.key_at.ensures n).1 number_is) c.in_default-due_key.ensures
-                (subst (IsDueThere c.args.keys.now c.args.places.now c.args.out.now c.args.numbers.now) (sym same) due))
+                (subst (IsDueThere c.args.keys.now c.args.key_slots.now c.args.out.now c.args.numbers.now) (sym same) due))
             | inr there ↦ there
           ];
       only = λ at is.

@@ -9,7 +9,7 @@ abbrev pub invariant-loop-top : goal.invariant-loop-top
 invariant-loop-top g l =
     record {
       ordered : IsQueue (heap_items l.queue);
-      stay : (at : ℕ) → IsQueued (heap_items l.fn.queue) at → IsDueThere l.keys l.places l.out l.numbers at
+      stay : (at : ℕ) → IsQueued (heap_items l.fn.queue) at → IsDueThere l.keys l.key_slots l.out l.numbers at
           → IsQueued (heap_items l.queue) at;
       only : (at : ℕ) → IsQueued (heap_items l.queue) at → IsQueued (heap_items l.fn.queue) at;
     }

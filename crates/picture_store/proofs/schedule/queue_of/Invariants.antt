@@ -10,6 +10,6 @@ invariant-loop-at g l =
     record {
       ordered : IsQueue (heap_items l.queue);
       due : (at : ℕ) → Contains (take l.at-index l.needed) at
-          → IsDueThere l.units.keys.now l.units.places.now l.out l.units.numbers.now at → IsQueued (heap_items l.queue) at;
+          → IsDueThere l.units.keys.now l.units.key_slots.now l.out l.units.numbers.now at → IsQueued (heap_items l.queue) at;
       those : (at : ℕ) → IsQueued (heap_items l.queue) at → Contains l.needed at;
     }

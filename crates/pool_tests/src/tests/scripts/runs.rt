@@ -102,7 +102,7 @@ fn scripts_of_a_seat_end_so(rt: HostRuntime) {
 }
 
 #[test]
-fn the_cache_beside_workers_has_the_room_that_is_asked_for(rt: HostRuntime) {
+fn the_cache_beside_workers_has_the_capacity_that_is_asked_for(rt: HostRuntime) {
     assert!(rt; ends_so(&rt, SMALL, &PENDING));
     assert!(rt; ends_so(&rt, OPTIONS, &READY));
 }

@@ -3,10 +3,10 @@
 use super::{A, ServeEnd, served_by};
 use bytes::Bytes;
 use h264_types::pictures::AuId;
-use session_journal::{EditList, Records, Snapshot, Step, Unkept};
+use session_journal::{EditList, RecordedStep, Records, Snapshot, Unkept};
 use std::alloc::{AllocError, Global};
 use std::thread::Threads;
-use stream_edits::{Edit, Place};
+use stream_edits::{Edit, InsertionPoint};
 
 /// One who records so many steps, and then can't write.
 #[derive(Drop)]
@@ -65,27 +65,27 @@ fn text(alloc: Global) -> Result<Bytes, AllocError> {
 }
 
 /// A load of two units, a deletion of the first, and another insertion.
-fn steps(alloc: Global) -> Result<Vec<Step>, AllocError> {
+fn steps(alloc: Global) -> Result<Vec<RecordedStep>, AllocError> {
     let mut loaded = Vec::new(alloc);
-    loaded.push(Edit::Insert(Place::First, text(alloc)?))?;
-    loaded.push(Edit::Insert(Place::After(AuId::new(1)), text(alloc)?))?;
+    loaded.push(Edit::Insert(InsertionPoint::First, text(alloc)?))?;
+    loaded.push(Edit::Insert(InsertionPoint::After(AuId::new(1)), text(alloc)?))?;
     let mut group = Vec::new(alloc);
     group.push(Edit::Delete(AuId::new(1)))?;
     group.push(Edit::Replace(AuId::new(2), text(alloc)?))?;
     let mut one = Vec::new(alloc);
-    one.push(Edit::Insert(Place::After(AuId::new(2)), text(alloc)?))?;
+    one.push(Edit::Insert(InsertionPoint::After(AuId::new(2)), text(alloc)?))?;
     let mut steps = Vec::new(alloc);
-    steps.push(Step::Load(EditList::new(loaded)))?;
-    steps.push(Step::Edits(EditList::new(group)))?;
-    steps.push(Step::Edits(EditList::new(one)))?;
+    steps.push(RecordedStep::Load(EditList::new(loaded)))?;
+    steps.push(RecordedStep::Edits(EditList::new(group)))?;
+    steps.push(RecordedStep::Edits(EditList::new(one)))?;
     Ok(steps)
 }
 
 /// A deletion of a unit that isn't there.
-fn refused(alloc: Global) -> Result<Step, AllocError> {
+fn refused(alloc: Global) -> Result<RecordedStep, AllocError> {
     let mut edits = Vec::new(alloc);
     edits.push(Edit::Delete(AuId::new(9)))?;
-    Ok(Step::Edits(EditList::new(edits)))
+    Ok(RecordedStep::Edits(EditList::new(edits)))
 }
 
 /// Questions after the steps, of which two are edits.
@@ -125,7 +125,7 @@ fn answers(alloc: Global) -> Result<String, AllocError> {
 /// Whether the questions after these steps are answered so, where one step more can be recorded.
 fn answers_after<R: AllocGlobal + Threads + Sync>(
     rt: &R,
-    steps: Vec<Step>,
+    steps: Vec<RecordedStep>,
 ) -> Result<bool, AllocError> {
     let lines = answers(rt.alloc())?;
     let journal = Few { left: 1, ids: 3 };
@@ -153,15 +153,15 @@ fn ends_unreplayed<R: AllocGlobal + Threads + Sync>(rt: &R) -> Result<bool, Allo
 }
 
 /// The units of the ids 5 and 9, where twelve were given, and a deletion of the first.
-fn from_snapshot(alloc: Global) -> Result<Vec<Step>, AllocError> {
+fn from_snapshot(alloc: Global) -> Result<Vec<RecordedStep>, AllocError> {
     let mut units = Vec::new(alloc);
     units.push((AuId::new(5), text(alloc)?))?;
     units.push((AuId::new(9), text(alloc)?))?;
     let mut edits = Vec::new(alloc);
     edits.push(Edit::Delete(AuId::new(5)))?;
     let mut steps = Vec::new(alloc);
-    steps.push(Step::Snapshot(Snapshot::new(units, 12)))?;
-    steps.push(Step::Edits(EditList::new(edits)))?;
+    steps.push(RecordedStep::Snapshot(Snapshot::new(units, 12)))?;
+    steps.push(RecordedStep::Edits(EditList::new(edits)))?;
     Ok(steps)
 }
 

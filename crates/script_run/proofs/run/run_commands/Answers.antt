@@ -4,7 +4,7 @@ use Rattle.script_run.specs.RunFaults.{IsCommandFault, fault_of_print}
 use Rattle.script_run.specs.Running.{Answers}
 use Rattle.script_run.proofs.Ran.{Answers-same}
 use Rattle.script_run.proofs.Sequenced.{written-push, stops-within}
-use Rattle.script_run.proofs.Told.{err-all}
+use Rattle.script_run.proofs.Unread.{err-all}
 use Rattle.script_run.proofs.run.run_commands.Goals as goal
 
 pub loop-command-preserved : goal.loop-command-preserved

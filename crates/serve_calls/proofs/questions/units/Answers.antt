@@ -1,10 +1,10 @@
 use Rattle.std.proofs.Common.{◌≡◌, ◌∙◌, ◌≤◌, List, ℕ, length, take, drop, filter_map, ap, ap₂, subst, sym}
 use Rattle.std.specs.List.{zip}
 use Rattle.unit_outcomes.specs.InDoubt.{AreDoubts}
-use Rattle.unit_outcomes.specs.declared.doubts.doubt.Doubt.{Doubt}
+use Rattle.unit_outcomes.specs.declared.doubts.walk.Doubt.{Doubt}
 use Rattle.stream_edits.specs.Streams.{ids_of}
 use Rattle.stream_session.specs.Doubting.{seen_in}
-use Rattle.serve_answers.specs.declared.unit_answers.Told.{Told}
+use Rattle.serve_answers.specs.declared.unit_answers.UnitFlags.{UnitFlags}
 use Rattle.serve_calls.specs.Answering.{AreToldFrom, unit_in}
 use Rattle.serve_calls.proofs.Pages.{told_from}
 use Rattle.serve_calls.proofs.questions.units.Goals as goal
@@ -42,5 +42,5 @@ returns c =
           (c.in_ok-told.ensures from (subst (λ (them : List ℕ). AreDoubts seen from (length them) doubts) (sym page) there));
       are = c.new.ensures
           ∙ (c.in_ok-answers.ensures
-          ∙ ap₂ (λ (ids : List ℕ) (told : List Told). filter_map (unit_in stream c.args.controls) (zip ids told)) page c.as_slice.ensures.value);
+          ∙ ap₂ (λ (ids : List ℕ) (told : List UnitFlags). filter_map (unit_in stream c.args.controls) (zip ids told)) page c.as_slice.ensures.value);
     }

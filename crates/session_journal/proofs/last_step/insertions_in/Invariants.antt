@@ -1,5 +1,5 @@
 use Rattle.std.proofs.Common.{◌≡◌, ◌≤◌, ◌+◌, ℕ, drop}
-use Rattle.session_journal.specs.Kept.{given_after_edits}
+use Rattle.session_journal.specs.RecordRows.{given_after_edits}
 use Rattle.session_journal.proofs.last_step.insertions_in.Given as goal
 
 -- with the insertions so far and the edits that are left there are as many ids as with all edits

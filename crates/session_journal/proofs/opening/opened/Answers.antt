@@ -1,6 +1,6 @@
 use Rattle.std.proofs.Common.{◌≡◌, length, false, ◌∙◌, rules}
 use Rattle.std.specs.List.{AllByRecursion}
-use Rattle.session_journal.specs.Kept.{IsStep}
+use Rattle.session_journal.specs.RecordRows.{IsStep}
 use Rattle.session_journal.specs.Records.{given_by_steps, lines_of_steps}
 use Rattle.session_journal.specs.Standing.{Standing}
 use Rattle.session_journal.proofs.OpenLemmas.{opened_end, opened_has}

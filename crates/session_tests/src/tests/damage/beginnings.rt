@@ -3,7 +3,7 @@
 use crate::tests::{empty_session, row_holds};
 use access_unit::read_unit;
 use bytes::Bytes;
-use stand_in_session::{Edit, Place, Session};
+use stand_in_session::{Edit, InsertionPoint, Session};
 use std::alloc::Global;
 use unit_outcomes::{Outcome, ValidityFault};
 
@@ -62,7 +62,7 @@ fn reads(alloc: Global, text: &[u8], answer: Answer) -> bool {
 /// The session, whose stream is empty, takes the text as its first unit and says this of it, or
 /// refuses it with the number.
 fn takes(session: &mut Session, text: &'static [u8], answer: Answer) -> bool {
-    let edit = Edit::Insert(Place::First, Bytes::from_static(text));
+    let edit = Edit::Insert(InsertionPoint::First, Bytes::from_static(text));
     match (session.edit(edit), answer) {
         (Ok(receipt), _) => match (session.outcome(receipt.id), answer) {
             (Ok(Outcome::Fault(fault)), Answer::Fault(wanted)) => *fault == wanted,

@@ -8,7 +8,7 @@ use bytes::Bytes;
 use h264_types::pictures::AuId;
 use session_builders::tells_each;
 use stand_in_device::{Device, Undone};
-use stand_in_session::{Edit, EditRefused, Job, Landing, Place, Session, Shown};
+use stand_in_session::{Edit, EditRefused, InsertionPoint, Job, Landing, Session, Shown};
 use std::alloc::{AllocError, Global};
 use std::process::Abort;
 use std::test::Fail;
@@ -56,8 +56,8 @@ fn inserts(
 ) -> Result<bool, AllocError> {
     let read = read_unit(alloc, text.as_slice());
     let place = match session.last().id {
-        Some(id) => Place::After(id),
-        None => Place::First,
+        Some(id) => InsertionPoint::After(id),
+        None => InsertionPoint::First,
     };
     let edit = Edit::Insert(place, Bytes::from_vec(text)?);
     match (read, session.edit(edit)) {

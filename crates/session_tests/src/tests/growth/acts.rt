@@ -7,9 +7,9 @@ use super::streams::{
     PICTURE_OF_P1, PICTURE_OF_P2, PICTURE_OF_SLICES, Planned, SLICES, SPS, TIED_B, planned,
 };
 use super::{empty_runner, row_holds};
-use Told::{After, Delete, First, Replace};
+use EditRow::{After, Delete, First, Replace};
 use h264_types::pictures::AuId;
-use session_builders::{Told, edit_of};
+use session_builders::{EditRow, edit_of};
 use stand_in_session::{
     Command, EditRefused, Landing, NotOut, Picture, Receipt, Reply, Returning, Runner, Shown,
     UnitReport,
@@ -23,7 +23,7 @@ use unit_outcomes::{Outcome, ValidityFault};
 #[derive(Clone, Copy)]
 pub(super) enum Act {
     /// An edit, accepted as the one of this number, with this id.
-    Edit(Told, u64, u32),
+    Edit(EditRow, u64, u32),
     /// A unit's position, and what is planned for it.
     Unit(u32, usize, Planned),
     Fault(u32, ValidityFault),

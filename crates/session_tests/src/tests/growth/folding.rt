@@ -6,7 +6,7 @@ use super::streams::{Planned, STREAMS, Stream, planned};
 use access_unit::{Unit, read_unit};
 use decode_jobs::dep_keys::{KeyId, Keys, Sha256Fingerprint};
 use h264_types::pictures::AuId;
-use picture_keys::{KeyNumbers, SlicesDigest, Works, node_of};
+use picture_keys::{KeyNumbers, RequestBodies, SlicesDigest, node_of};
 use request_core::{State, Steps, step};
 use std::alloc::{AllocError, Global};
 use unit_outcomes::{Outcome, Requests};
@@ -28,7 +28,7 @@ fn step_again(
 /// Interns the key of requests.
 fn intern(
     alloc: Global,
-    keys: &mut Keys<Works, Sha256Fingerprint>,
+    keys: &mut Keys<RequestBodies, Sha256Fingerprint>,
     numbers: &mut KeyNumbers<'_>,
     requests: &Requests,
 ) -> Result<KeyId, AllocError> {
@@ -44,7 +44,7 @@ fn intern(
 /// Interns the key of requests; where memory runs out, the keys are as they were.
 fn intern_again(
     alloc: Global,
-    keys: &mut Keys<Works, Sha256Fingerprint>,
+    keys: &mut Keys<RequestBodies, Sha256Fingerprint>,
     numbers: &mut KeyNumbers<'_>,
     requests: &Requests,
 ) -> Result<KeyId, AllocError> {
@@ -66,7 +66,7 @@ fn put_again(numbers: &mut KeyNumbers<'_>, id: AuId, key: KeyId) -> Result<(), A
 /// The key of a unit's requests is a new one, and the same once more.
 fn has_new_key(
     alloc: Global,
-    keys: &mut Keys<Works, Sha256Fingerprint>,
+    keys: &mut Keys<RequestBodies, Sha256Fingerprint>,
     numbers: &mut KeyNumbers<'_>,
     id: AuId,
     requests: &Requests,
@@ -81,7 +81,7 @@ fn has_new_key(
 /// The unit's outcome is valid with a new key, or that it has no picture.
 fn is_valid_or_empty(
     alloc: Global,
-    keys: &mut Keys<Works, Sha256Fingerprint>,
+    keys: &mut Keys<RequestBodies, Sha256Fingerprint>,
     numbers: &mut KeyNumbers<'_>,
     id: AuId,
     outcome: &Outcome,

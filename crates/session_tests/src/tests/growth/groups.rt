@@ -3,8 +3,8 @@
 
 use super::seen::seen;
 use super::{empty_session, row_holds};
-use Told::{After, Delete, First, Replace};
-use session_builders::{Told, edits_of};
+use EditRow::{After, Delete, First, Replace};
+use session_builders::{EditRow, edits_of};
 use stand_in_session::{Edit, GroupReceipt, GroupRefused, Session};
 use std::alloc::{AllocError, AllocGlobal, Global};
 use std::process::Abort;
@@ -26,7 +26,7 @@ const P2: &[u8] = &[0, 0, 1, 0x41, 0x9A, 0x43];
 
 /// Groups on one session, with the ids that each is answered, or the index of the edit that is
 /// refused.
-const GROUPS: [(&[Told], Result<&[u32], usize>); 4] = [
+const GROUPS: [(&[EditRow], Result<&[u32], usize>); 4] = [
     (&[First(A), After(1, P1), After(2, P2)], Ok(&[1, 2, 3])),
     (&[Delete(2), After(1, SPS), Delete(2)], Err(2)),
     (&[Delete(2), After(1, P1), After(4, SPS)], Ok(&[2, 4, 5])),
@@ -34,7 +34,7 @@ const GROUPS: [(&[Told], Result<&[u32], usize>); 4] = [
 ];
 
 /// The edits of a row, made again where memory runs out.
-fn edits_again(alloc: Global, told: &[Told]) -> Result<Vec<Edit>, AllocError> {
+fn edits_again(alloc: Global, told: &[EditRow]) -> Result<Vec<Edit>, AllocError> {
     edits_of(alloc, told).or_else(|_: AllocError| edits_of(alloc, told))
 }
 
@@ -42,7 +42,7 @@ fn edits_again(alloc: Global, told: &[Told]) -> Result<Vec<Edit>, AllocError> {
 fn group(
     rt: &(impl Abort + AllocGlobal),
     session: &mut Session,
-    told: &[Told],
+    told: &[EditRow],
 ) -> Result<Result<GroupReceipt, GroupRefused>, AllocError> {
     let before = seen(session);
     let edits = edits_again(rt.alloc(), told)?;

@@ -4,7 +4,7 @@ use super::sessions::{edit, is_insertion, lands};
 use super::streams::{A, PICTURE_OF_A};
 use super::{appended, empty_session};
 use h264_types::pictures::AuId;
-use session_builders::Told;
+use session_builders::EditRow;
 use stand_in_session::{EditRefused, Receipt, Shown};
 
 /// How many pictures an edit lost, if it was accepted.
@@ -23,7 +23,7 @@ fn refused_growth_of_the_cache(rt: HostRuntime) {
     let answer = edit(&rt, &mut session, appended(0, A));
     assert!(rt; is_insertion(&answer, 1) && lost_by(&answer) == Some(0));
     assert!(rt; lands(&rt, &mut session, 1, PICTURE_OF_A));
-    let lost = lost_by(&edit(&rt, &mut session, Told::Delete(1)));
+    let lost = lost_by(&edit(&rt, &mut session, EditRow::Delete(1)));
     assert!(rt; lost == Some(0) || lost == Some(1));
     assert!(rt; lost_by(&edit(&rt, &mut session, appended(0, A))) == Some(0));
     let shown = match lost {

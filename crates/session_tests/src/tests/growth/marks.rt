@@ -5,7 +5,7 @@ use super::sessions::{edit, is_insertion};
 use super::streams::A;
 use super::{appended, empty_session};
 use h264_types::pictures::AuId;
-use session_builders::Told;
+use session_builders::EditRow;
 use stand_in_session::Session;
 use std::process::Abort;
 
@@ -32,6 +32,6 @@ fn refused_growth_of_a_mark(rt: HostRuntime) {
     assert!(rt; session.is_altered(AuId::new(1)) == Some(true));
     assert!(rt; mark(&rt, &mut session));
     assert!(rt; session.is_altered(AuId::new(1)) == Some(false));
-    let _ = edit(&rt, &mut session, Told::Delete(1));
+    let _ = edit(&rt, &mut session, EditRow::Delete(1));
     assert!(rt; session.is_altered(AuId::new(1)) == None);
 }

@@ -4,7 +4,7 @@ use super::sessions::{edit, is_insertion};
 use super::streams::{A, P1};
 use super::{appended, empty_session, row_holds};
 use h264_types::pictures::AuId;
-use session_builders::Told;
+use session_builders::EditRow;
 use stand_in_session::{EditRefused, Receipt};
 
 /// How many IDR pictures the stream has.
@@ -31,7 +31,7 @@ fn refused_growth_of_an_edit_in_the_middle(rt: HostRuntime) {
             is_insertion(&answer, last.saturating_add(1)),
         );
     }
-    let answer = edit(&rt, &mut session, Told::Replace(50, P1));
+    let answer = edit(&rt, &mut session, EditRow::Replace(50, P1));
     assert!(rt; is_replacement(&answer));
     assert!(rt; session.position(AuId::new(50)) == Ok(Some(49)));
     assert!(rt; session.position(AuId::new(100)) == Ok(Some(99)));

@@ -5,7 +5,7 @@ use super::seen::seen;
 use super::streams::{STREAMS, Stream};
 use super::{appended, empty_session, row_holds};
 use h264_types::pictures::AuId;
-use session_builders::{Told, edit_of};
+use session_builders::{EditRow, edit_of};
 use stand_in_device::{Device, Undone};
 use stand_in_session::{
     EditRefused, Finished, Job, Landing, Picture, Receipt, Returning, Session, Shown, TakeRefused,
@@ -17,7 +17,7 @@ use std::process::Abort;
 pub(super) fn edit(
     rt: &impl Abort,
     session: &mut Session,
-    told: Told,
+    told: EditRow,
 ) -> Result<Receipt, EditRefused> {
     let before = seen(session);
     match session.edit(edit_of(told)) {

@@ -5,16 +5,16 @@ use super::seen::seen;
 use super::sessions::shown_at_last;
 use super::streams::{A, OTHER_A, STREAMS, Stream};
 use super::{appended, new_session, row_holds};
-use Told::{Delete, First, Replace};
+use EditRow::{Delete, First, Replace};
 use h264_types::pictures::AuId;
-use session_builders::{Told, edit_of};
+use session_builders::{EditRow, edit_of};
 use stand_in_device::{Device, Undone};
 use stand_in_session::{EditRefused, Finished, Job, Landing, Returning, Session, TakeRefused};
 use std::alloc::{AllocError, AllocGlobal, Global};
 use std::process::Abort;
 
 /// Makes the edit; where memory runs out nothing is changed.
-fn edit(rt: &impl Abort, session: &mut Session, told: Told) -> Result<(), AllocError> {
+fn edit(rt: &impl Abort, session: &mut Session, told: EditRow) -> Result<(), AllocError> {
     let before = seen(session);
     match session.edit(edit_of(told)) {
         Ok(_) => Ok(()),
@@ -103,7 +103,7 @@ fn starved_sessions(rt: HostRuntime) {
 
 /// Edits that are made while the job of the stream's one unit is out, each with how its result
 /// lands from then on.
-const LATE: [&[(Told, Landing)]; 3] = [
+const LATE: [&[(EditRow, Landing)]; 3] = [
     &[(Delete(1), Landing::Stale), (First(A), Landing::Taken)],
     &[
         (Replace(1, OTHER_A), Landing::Stale),
@@ -117,7 +117,7 @@ const LATE: [&[(Told, Landing)]; 3] = [
 
 /// Makes the edits, so far as there is memory; how the result lands after the last one that was
 /// made.
-fn landing_after(rt: &impl Abort, session: &mut Session, edits: &[(Told, Landing)]) -> Landing {
+fn landing_after(rt: &impl Abort, session: &mut Session, edits: &[(EditRow, Landing)]) -> Landing {
     let mut landing = Landing::Taken;
     for (told, after) in edits {
         if edit(rt, session, *told).is_err() {
@@ -138,7 +138,7 @@ fn first_job(rt: &impl Abort, session: &mut Session) -> Option<Job> {
 fn lands_late(
     rt: &(impl Abort + AllocGlobal),
     session: &mut Session,
-    edits: &[(Told, Landing)],
+    edits: &[(EditRow, Landing)],
 ) -> bool {
     let Some(job) = first_job(rt, session) else {
         return true;

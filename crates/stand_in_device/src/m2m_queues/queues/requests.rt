@@ -8,10 +8,10 @@ ghost use Rattle.stand_in_device.specs.Steps.{Follows, Looks};
 use super::Queues;
 use crate::m2m_queues::buffers::{Buffer, Buffers};
 use crate::m2m_queues::fault::QueueFault;
-use crate::m2m_queues::requests::{MOST_REQUESTS, Request, RequestId, RequestState};
+use crate::m2m_queues::requests::{MOST_REQUESTS, QueueRequest, RequestId, RequestState};
 
 /// The OUTPUT buffer that is bound to a request becomes free.
-fn give_back<C>(outputs: &mut Buffers, request: &Request<C>)
+fn give_back<C>(outputs: &mut Buffers, request: &QueueRequest<C>)
     ensures { outputs.new ≡ given_back outputs.old (Some request.now) }
 {
     if let Some(output) = &request.output {
@@ -42,7 +42,7 @@ impl<C: Drop> Queues<C> {
         }
         let slot = self
             .requests
-            .insert_reserved(Request::empty(RequestState::Idle));
+            .insert_reserved(QueueRequest::empty(RequestState::Idle));
         Ok(RequestId(slot))
     }
 
@@ -73,7 +73,7 @@ impl<C: Drop> Queues<C> {
             return Err(QueueFault::Busy);
         }
         give_back(&mut self.outputs, found);
-        *found = Request::empty(RequestState::Idle);
+        *found = QueueRequest::empty(RequestState::Idle);
         Ok(())
     }
 

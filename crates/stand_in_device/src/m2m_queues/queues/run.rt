@@ -10,8 +10,8 @@ ghost use Rattle.stand_in_device.specs.Runs.{RunsOne, begin, held_for_another, r
 use super::Queues;
 use crate::m2m_queues::buffers::{Buffer, BufferState, Buffers};
 use crate::m2m_queues::fault::QueueFault;
-use crate::m2m_queues::requests::{Output, Request, RequestState};
-use crate::m2m_queues::work::{RunOne, SliceWork, Target};
+use crate::m2m_queues::requests::{Output, QueueRequest, RequestState};
+use crate::m2m_queues::slice_decoder::{RunOne, SliceDecoder, Target};
 use slab::Slab;
 
 /// Releases a CAPTURE buffer that is held for another frame than this one, and answers whether
@@ -66,20 +66,20 @@ fn written(target: Target, output: &Output) -> Buffer
 }
 
 /// The request is complete, and nothing is bound to it.
-fn complete<C: Drop>(requests: &mut Slab<Request<C>>, id: usize)
+fn complete<C: Drop>(requests: &mut Slab<QueueRequest<C>>, id: usize)
     requires { ContainsKey requests.old id }
     ensures { requests.new ≡ with_value requests.old id (empty_request RequestState.Complete) }
 {
-    requests[id] = Request::empty(RequestState::Complete);
+    requests[id] = QueueRequest::empty(RequestState::Complete);
 }
 
 impl<C: Drop> Queues<C> {
     /// Runs the oldest queued request, on the CAPTURE buffer that is held for its frame or else on
     /// the oldest queued one. A CAPTURE buffer that is held for another frame is done before that,
-    /// or, where no other is queued, done instead. Where the work runs out of memory, the queues
+    /// or, where no other is queued, done instead. Where the decoder runs out of memory, the queues
     /// are as they were.
-    pub fn run_one<S: SliceWork<C>>(&mut self, work: &mut S) -> Result<RunOne, QueueFault>
-        ensures { RunsOne S.works self.old self.new work.old work.new result }
+    pub fn run_one<S: SliceDecoder<C>>(&mut self, decoder: &mut S) -> Result<RunOne, QueueFault>
+        ensures { RunsOne S.decodes self.old self.new decoder.old decoder.new result }
     {
         let Some(id) = self.order.as_slice().first().copied() else {
             return Err(QueueFault::Again);
@@ -98,7 +98,7 @@ impl<C: Drop> Queues<C> {
                 Err(QueueFault::Again)
             };
         };
-        work.slice(controls, &output.bytes, timestamp, target)?;
+        decoder.slice(controls, &output.bytes, timestamp, target)?;
         let ready = Buffer::done(output.index, timestamp);
         let capture = written(target, output);
         self.outputs.turn(ready);

@@ -1,5 +1,5 @@
 use Rattle.std.proofs.Common.{◌≡◌, ◌≤◌, ◌+◌, max, drop}
-use Rattle.stream_check.specs.Counts.{before_next, longest_period}
+use Rattle.stream_check.specs.StreamCounts.{before_next, longest_period}
 use Rattle.stream_check.proofs.counts.longest_period.Given as goal
 
 -- the longest so far, the one that goes on, and those that are left

@@ -1,5 +1,5 @@
 use Rattle.std.proofs.Common.{◌≡◌, map, max, drop}
-use Rattle.stream_check.specs.Counts.{frames_of, most_of}
+use Rattle.stream_check.specs.StreamCounts.{frames_of, most_of}
 use Rattle.stream_check.proofs.counts.most_frames.Given as goal
 
 -- the most of those so far and of those that are left

@@ -1,6 +1,6 @@
 use Rattle.std.proofs.Common.{◌≡◌, map, take}
 use Rattle.std.specs.List.{sum}
-use Rattle.stream_check.specs.Counts.{slices_of}
+use Rattle.stream_check.specs.StreamCounts.{slices_of}
 use Rattle.stream_check.proofs.counts.slices_in.Given as goal
 
 -- those so far

@@ -6,7 +6,7 @@ use Rattle.stream_fold.proofs.storing.put_all.Given as goal
 abbrev pub invariant-loop-place : goal.invariant-loop-place
 invariant-loop-place l = record {
   left : put_all (reverse l.states.items) l.stored.states ≡ put_all (reverse l.initial.states.items) l.initial.stored.states;
-  room : length l.states.items ≤ l.stored.room;
+  spare : length l.states.items ≤ l.stored.spare;
 }
 
 abbrev pub decreases-loop-place : goal.decreases-loop-place

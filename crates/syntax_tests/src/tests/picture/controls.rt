@@ -246,10 +246,10 @@ fn forms(rt: HostRuntime) -> Result<(), Fail> {
     Ok(())
 }
 
-/// Whether a copy of the request that `copies` makes has its work, its timestamp, its references
+/// Whether a copy of the request that `copies` makes has its body, its timestamp, its references
 /// and that it is held.
 fn is_copy(request: &Request, copy: &Request) -> bool {
-    copy.work.is_same(&request.work)
+    copy.body.is_same(&request.body)
         && copy.bytes().len() == 6
         && copy.timestamp == 2000
         && copy.hold

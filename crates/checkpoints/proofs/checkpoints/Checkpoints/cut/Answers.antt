@@ -11,7 +11,7 @@ invariant_of-self g c =
     let ps = c.self.inside.places in
     let ss = c.self.inside.states in
     let kept = c.self.invariant in
-    let same = same_length ps ss c.self.inside.room kept in
+    let same = same_length ps ss c.self.inside.spare kept in
     let a = c.places_up_to-first.result in
     let b = c.max-past.result in
     let le : a ≤ b = omega (arith, c.max-past.ensures) in
@@ -37,7 +37,7 @@ returns-clause-after g c =
     let ps = c.self.inside.places in
     let ss = c.self.inside.states in
     let kept = c.self.invariant in
-    let same = same_length ps ss c.self.inside.room kept in
+    let same = same_length ps ss c.self.inside.spare kept in
     let is = rw c.deref.ensures.value at c.places_up_to-first.ensures.value in
     let below = rw c.deref-2.ensures.value at c.places_below.ensures.value in
     let most : max (places_below ps.items c.args.high) c.places_up_to-first.result ≡ c.max-past.result = sym (rw below at c.max-past.ensures) in
@@ -49,4 +49,4 @@ returns-clause-in_order g c =
     let kept = invariant_of-self g c in
     let places = c.remove_range.new.items in
     let states = c.remove_range-2.new.items in
-    in_order places.items states.items (same_length places states c.self.inside.room kept) kept.first kept.rising
+    in_order places.items states.items (same_length places states c.self.inside.spare kept) kept.first kept.rising

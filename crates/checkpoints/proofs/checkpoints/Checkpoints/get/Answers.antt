@@ -8,7 +8,7 @@ returns-then-index-place g c =
     let ps = c.self.inside.places in
     let ss = c.self.inside.states in
     let kept = c.self.invariant in
-    let same = same_length ps ss c.self.inside.room kept in
+    let same = same_length ps ss c.self.inside.spare kept in
     let is = rw c.deref.ensures.value at c.places_up_to-found.ensures.value in
     rw (← c.self.view_is)
     (sym (get_some ps.items ss.items c.args.place c.places_up_to-found.result c.index.result.now c.index-then-index-place.result.now kept.first kept.rising same is c.index.ensures c.if-index-place.true c.index-then-index-place.ensures))

@@ -9,7 +9,7 @@ returns-clause-len g c =
     let ps = c.self.inside.places in
     let ss = c.self.inside.states in
     let kept = c.self.invariant in
-    let same = same_length ps ss c.self.inside.room kept in
+    let same = same_length ps ss c.self.inside.spare kept in
     rw (← c.self.view_is) (omega (arith, length-zip ps.items ss.items, same, ss.ok.0, c.len.ensures))
 
 pub returns-clause-in_order : goal.returns-clause-in_order
@@ -17,5 +17,5 @@ returns-clause-in_order g c =
     let ps = c.self.inside.places in
     let ss = c.self.inside.states in
     let kept = c.self.invariant in
-    let same = same_length ps ss c.self.inside.room kept in
+    let same = same_length ps ss c.self.inside.spare kept in
     rw (← c.self.view_is) (in_order ps.items ss.items same kept.first kept.rising)

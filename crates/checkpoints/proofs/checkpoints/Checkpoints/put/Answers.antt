@@ -44,7 +44,7 @@ invariant_of-self-else-index-place g c =
     let is = rw c.deref.ensures.value at c.places_up_to-past.ensures.value in
     let other = apart_is ps.items c.args.place past c.index.result.now kept.first kept.rising is c.index.ensures c.if-index-place.false in
     let some = rw (← c.self.view_is) at c.requires in
-    let room = some (lookup_apart ps.items ss.items c.args.place other) in
+    let spare = some (lookup_apart ps.items ss.items c.args.place other) in
     let first = first_up_to ps.items c.args.place kept.first in
     let n : past ≡ suc first.0 = is ∙ first.1 in
     let p = rw c.unwrap.ensures at c.insert.ensures.items in
@@ -54,8 +54,8 @@ invariant_of-self-else-index-place g c =
       same = omega (arith, p-len, s-len, kept.same);
       first = rw (p, n) (starts_insert ps.items first.0 c.args.place kept.first);
       rising = rw p (rising_insert ps.items c.args.place past kept.rising (sym is) other);
-      places_fit = omega (arith, p-len, kept.places_fit, c.insert.ensures.capacity, room);
-      states_fit = omega (arith, s-len, kept.states_fit, c.insert-else-index-place.ensures.capacity, room);
+      places_fit = omega (arith, p-len, kept.places_fit, c.insert.ensures.capacity, spare);
+      states_fit = omega (arith, s-len, kept.states_fit, c.insert-else-index-place.ensures.capacity, spare);
     }
 
 pub returns-then-index-place-clause-states : goal.returns-then-index-place-clause-states
@@ -63,7 +63,7 @@ returns-then-index-place-clause-states g c =
     let ps = c.self.inside.places in
     let ss = c.self.inside.states in
     let kept = c.self.invariant in
-    let same = same_length ps ss c.self.inside.room kept in
+    let same = same_length ps ss c.self.inside.spare kept in
     let past = c.places_up_to-past.result in
     let is = rw c.deref.ensures.value at c.places_up_to-past.ensures.value in
     let first = first_up_to ps.items c.args.place kept.first in
@@ -72,12 +72,12 @@ returns-then-index-place-clause-states g c =
     rw (← c.self.view_is, n)
     (sym (put_there ps.items ss.items c.args.place first.0 c.index.result.now c.args.state kept.rising same first.1 there))
 
-pub returns-then-index-place-clause-room : goal.returns-then-index-place-clause-room
-returns-then-index-place-clause-room g c =
+pub returns-then-index-place-clause-spare : goal.returns-then-index-place-clause-spare
+returns-then-index-place-clause-spare g c =
     let ps = c.self.inside.places in
     let ss = c.self.inside.states in
     let kept = c.self.invariant in
-    let same = same_length ps ss c.self.inside.room kept in
+    let same = same_length ps ss c.self.inside.spare kept in
     let past = c.places_up_to-past.result in
     let is = rw c.deref.ensures.value at c.places_up_to-past.ensures.value in
     let first = first_up_to ps.items c.args.place kept.first in
@@ -90,7 +90,7 @@ returns-else-index-place-clause-states g c =
     let ps = c.self.inside.places in
     let ss = c.self.inside.states in
     let kept = c.self.invariant in
-    let same = same_length ps ss c.self.inside.room kept in
+    let same = same_length ps ss c.self.inside.spare kept in
     let past = c.places_up_to-past.result in
     let is = rw c.deref.ensures.value at c.places_up_to-past.ensures.value in
     let other = apart_is ps.items c.args.place past c.index.result.now kept.first kept.rising is c.index.ensures c.if-index-place.false in
@@ -99,8 +99,8 @@ returns-else-index-place-clause-states g c =
     rw (← c.self.view_is, p, s)
     (sym (put_new ps.items ss.items c.args.place past c.args.state kept.rising same (sym is) other))
 
-pub returns-else-index-place-clause-room : goal.returns-else-index-place-clause-room
-returns-else-index-place-clause-room g c =
+pub returns-else-index-place-clause-spare : goal.returns-else-index-place-clause-spare
+returns-else-index-place-clause-spare g c =
     let ps = c.self.inside.places in
     let kept = c.self.invariant in
     let is = rw c.deref.ensures.value at c.places_up_to-past.ensures.value in
@@ -113,11 +113,11 @@ returns-then-index-place-clause-in_order g c =
     let ss = c.self.inside.states in
     let kept = c.self.invariant in
     let at = c.places_up_to-past.result - 1 in
-    in_order ps.items (set ss.items at c.args.state) (length-set ss.items at c.args.state ∙ same_length ps ss c.self.inside.room kept) kept.first kept.rising
+    in_order ps.items (set ss.items at c.args.state) (length-set ss.items at c.args.state ∙ same_length ps ss c.self.inside.spare kept) kept.first kept.rising
 
 pub returns-else-index-place-clause-in_order : goal.returns-else-index-place-clause-in_order
 returns-else-index-place-clause-in_order g c =
     let kept = invariant_of-self-else-index-place g c in
     let places = c.insert.new.self in
     let states = c.insert-else-index-place.new.self in
-    in_order places.items states.items (same_length places states (c.self.inside.room - 1) kept) kept.first kept.rising
+    in_order places.items states.items (same_length places states (c.self.inside.spare - 1) kept) kept.first kept.rising

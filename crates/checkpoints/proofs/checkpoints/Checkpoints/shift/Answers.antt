@@ -10,7 +10,7 @@ move_places-requires g c =
     let ps = c.self.inside.places in
     let ss = c.self.inside.states in
     let kept = c.self.invariant in
-    let same = same_length ps ss c.self.inside.room kept in
+    let same = same_length ps ss c.self.inside.spare kept in
     let can = rw (← c.self.view_is, keys_of-zip ps.items ss.items same) at c.requires.apart in
     all_movable c.args.from c.args.change ps.items c.requires.above kept.first can
 
@@ -19,7 +19,7 @@ invariant_of-self g c =
     let ps = c.self.inside.places in
     let ss = c.self.inside.states in
     let kept = c.self.invariant in
-    let same = same_length ps ss c.self.inside.room kept in
+    let same = same_length ps ss c.self.inside.spare kept in
     let can = rw (← c.self.view_is, keys_of-zip ps.items ss.items same) at c.requires.apart in
     record {
       same = omega (arith, kept.same, c.move_places.ensures.len);
@@ -38,4 +38,4 @@ returns-clause-in_order g c =
     let kept = invariant_of-self g c in
     let places = c.move_places.new.places in
     let states = c.self.inside.states in
-    in_order places.items states.items (same_length places states c.self.inside.room kept) kept.first kept.rising
+    in_order places.items states.items (same_length places states c.self.inside.spare kept) kept.first kept.rising

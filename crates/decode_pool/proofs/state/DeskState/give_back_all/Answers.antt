@@ -5,12 +5,12 @@ use Rattle.decode_pool.proofs.state.DeskState.give_back_all.Goals as goal
 pub loop-at-preserved : goal.loop-at-preserved
 loop-at-preserved g c =
     let gives = c.give_back.ensures.session in
-    let one : length c.loop-at.tally.jobs.items ≡ length c.give_back.new.tally.jobs.items + 1 =
-    longer c.loop-at.tally.jobs.items c.give_back.new.tally.jobs.items gives.job gives.first in (
+    let one : length c.loop-at.queue.jobs.items ≡ length c.give_back.new.queue.jobs.items + 1 =
+    longer c.loop-at.queue.jobs.items c.give_back.new.queue.jobs.items gives.job gives.first in (
       λ to final others.
           c.loop-at.invariant.0 to final
-          (give_first c.loop-at.self.session c.loop-at.tally c.give_back.result c.give_back.new.self.session
-          c.give_back.new.tally gives to final others),
+          (give_first c.loop-at.self.session c.loop-at.queue c.give_back.result c.give_back.new.self.session
+          c.give_back.new.queue gives to final others),
       omega (arith, one, c.loop-at.invariant.1),
       gives.results ∙ c.loop-at.invariant.2,
       gives.late ∙ c.loop-at.invariant.3,

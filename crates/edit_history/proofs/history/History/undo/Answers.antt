@@ -2,8 +2,8 @@ use Rattle.std.proofs.Common.{◌≡◌, ◌≢◌, ℕ, ◌+◌, List, Some, le
 use Rattle.std.specs.Prelude.{slice_get}
 use Rattle.std.proofs.lemmas.Option.{slice_get_read}
 use Rattle.stream_edits.specs.Edits.{Register}
-use Rattle.edit_history.specs.declared.changes.Change.{Change}
-use Rattle.edit_history.specs.declared.history.Step.{Step}
+use Rattle.edit_history.specs.declared.changes.UnitChange.{UnitChange}
+use Rattle.edit_history.specs.declared.history.HistoryStep.{HistoryStep}
 use Rattle.edit_history.specs.declared.refusals.NotUndone.TheVariants.{Unfit}
 use Rattle.edit_history.specs.Changes.{ChangesAll}
 use Rattle.edit_history.specs.Histories.{IsHistory}
@@ -19,7 +19,7 @@ returns-clause-fit c =
     let lookup = c.in-Some-get.ensures.lookup in
     let done_is : history.done ≡ last + 1 = grind (arith, c.in-Some.ensures) in
     let step_is : slice_get history.steps.items last ≡ Some step =
-    subst (λ (steps : List Step). slice_get steps last ≡ Some step) c.deref.ensures.value
+    subst (λ (steps : List HistoryStep). slice_get steps last ≡ Some step) c.deref.ensures.value
     (slice_get_read c.deref.result.now (length c.deref.result.now) last step refl lookup.3.0 lookup.1) in
     IfErr-more c.group_of.result
     (λ refused. (old : Register) (before after : Texts) → IsStream old before c.args.ids.now c.args.ids_given
@@ -33,6 +33,6 @@ returns-clause-fit c =
     let now : slice_get states (last + 1) ≡ Some texts = subst (λ (n : ℕ). slice_get states n ≡ Some texts) done_is is.now in
     never old texts before stream
     (c.in_ok-inverse.ensures.back before texts
-    (subst (λ (changes : List Change). ChangesAll before changes texts) (sym c.deref-2.ensures.value)
+    (subst (λ (changes : List UnitChange). ChangesAll before changes texts) (sym c.deref-2.ensures.value)
     (is.fits.each last step before texts step_is here now))))
     c.group_of.ensures.fit

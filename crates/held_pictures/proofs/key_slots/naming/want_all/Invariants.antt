@@ -9,5 +9,5 @@ invariant-loop-at g l =
       stay : (id : ℕ) → Contains l.fn.wanted.items id → Contains l.wanted.items id;
       only : (id : ℕ) → Contains l.wanted.items id → Contains l.fn.wanted.items id ⊎ Contains l.units (Some id);
       all : (i id number : ℕ) → i < l.at → slice_get l.units i ≡ Some (Some id)
-          → slice_get l.entries i ≡ Some (Some number) → (IsHeld l.places number → ⊥) → Contains l.wanted.items id;
+          → slice_get l.entries i ≡ Some (Some number) → (IsHeld l.key_slots number → ⊥) → Contains l.wanted.items id;
     }

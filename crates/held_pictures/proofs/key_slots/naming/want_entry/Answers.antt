@@ -18,5 +18,5 @@ returns-in-Some-Some-clause-all g c =
     on_ok_weaker c.want.result
     (λ all id number unit_is entry_is waits.
     subst (Contains c.want.new.wanted.items) (same_Some c.in-Some-Some.id id (sym c.in-Some-Some.is-0 ∙ unit_is))
-    (all (subst (λ n. IsHeld c.args.places.now n → ⊥) (sym (same_Some c.in-Some-Some.key number (sym c.in-Some-Some.is-1 ∙ entry_is))) waits)))
+    (all (subst (λ n. IsHeld c.args.key_slots.now n → ⊥) (sym (same_Some c.in-Some-Some.key number (sym c.in-Some-Some.is-1 ∙ entry_is))) waits)))
     c.want.ensures.all

@@ -25,11 +25,11 @@ returns-clause-all g c =
     c.deref.ensures.value ∙ (c.in_ok-units.ensures ∙ ap named_by_all (c.as_slice.ensures ∙ sym (ap requests_in c.in-Plan-Some.is-0))) in
     on_ok_weaker c.want_all.result
     (λ all known plan id own tree_is outcome_is listed known_is waits.
-    named_wanted c.args.keys.now c.args.places.now c.args.key c.in-Plan-Some.node.now c.in-Plan-Some.ensures known plan
+    named_wanted c.args.keys.now c.args.key_slots.now c.args.key c.in-Plan-Some.node.now c.in-Plan-Some.ensures known plan
     (tree_is ∙ ap (key_of_outcome known) outcome_is) c.want_all.new.wanted.items
-    (subst (λ (entries : List (Option ℕ)). AreWanted c.args.places.now (named_by_all plan.requests) entries c.want_all.new.wanted.items)
+    (subst (λ (entries : List (Option ℕ)). AreWanted c.args.key_slots.now (named_by_all plan.requests) entries c.want_all.new.wanted.items)
     c.entries.ensures
-    (subst (λ (units : List (Option ℕ)). AreWanted c.args.places.now units c.entries.result.now c.want_all.new.wanted.items)
+    (subst (λ (units : List (Option ℕ)). AreWanted c.args.key_slots.now units c.entries.result.now c.want_all.new.wanted.items)
     (units_are ∙ ap (λ (outcome : Outcome). named_by_all (requests_in outcome)) outcome_is) all))
     id own known_is waits listed)
     c.want_all.ensures.all

@@ -39,14 +39,14 @@ returns-clause-all g c =
     let named = names.listed in
     let became : c.deref-2.result.now ≡ Planned named.1 =
     outcome_is ∙ ap (λ (u : ℕ × Outcome). u.1) (same_Some (unit.0, c.index-units-at.result) (named.0, Planned named.1) (sym unit.1 ∙ named.2)) in
-    let key = named_key units.keys.now units.ids.now units.outcomes.now units.numbers.now columns.stand columns.one units.places.now
+    let key = named_key units.keys.now units.ids.now units.outcomes.now units.numbers.now columns.stand columns.one units.key_slots.now
     c.args.at c.args.key c.requires.key other names waits in
-    all (known_there units.keys.now units.ids.now units.outcomes.now units.numbers.now columns.stand columns.one units.places.now
+    all (known_there units.keys.now units.ids.now units.outcomes.now units.numbers.now columns.stand columns.one units.key_slots.now
     c.args.at c.args.key c.requires.key other names waits) named.1 names.id key.0
-    (own_key units.keys.now units.ids.now units.outcomes.now units.numbers.now columns.stand columns.one units.places.now c.args.at
-    c.args.key c.requires.key other names waits named.0 named.1 named.2 ∙ sym (ap (key_of_outcome (known_there units.keys.now units.ids.now units.outcomes.now units.numbers.now columns.stand columns.one units.places.now
+    (own_key units.keys.now units.ids.now units.outcomes.now units.numbers.now columns.stand columns.one units.key_slots.now c.args.at
+    c.args.key c.requires.key other names waits named.0 named.1 named.2 ∙ sym (ap (key_of_outcome (known_there units.keys.now units.ids.now units.outcomes.now units.numbers.now columns.stand columns.one units.key_slots.now
     c.args.at c.args.key c.requires.key other names waits)) became))
     became named.3 key.1
-    (named_waits units.keys.now units.ids.now units.outcomes.now units.numbers.now columns.stand columns.one units.places.now c.args.at
+    (named_waits units.keys.now units.ids.now units.outcomes.now units.numbers.now columns.stand columns.one units.key_slots.now c.args.at
     c.args.key c.requires.key other names waits))
     c.want_named.ensures.all

@@ -10,9 +10,9 @@ invariant-loop-at g l =
     record {
       within : l.at ≤ l.from;
       scanned : (target : ℕ)
-          → IsScanned (zip l.units.ids.now l.units.outcomes.now) (IsWaiting l.units.numbers.now l.units.places.now) target l.from
+          → IsScanned (zip l.units.ids.now l.units.outcomes.now) (IsWaiting l.units.numbers.now l.units.key_slots.now) target l.from
           l.fn.scan.wanted.items l.fn.scan.needed.items
-          → IsScanned (zip l.units.ids.now l.units.outcomes.now) (IsWaiting l.units.numbers.now l.units.places.now) target l.at
+          → IsScanned (zip l.units.ids.now l.units.outcomes.now) (IsWaiting l.units.numbers.now l.units.key_slots.now) target l.at
           l.scan.wanted.items l.scan.needed.items;
     }
 

@@ -12,7 +12,7 @@ use Rattle.held_pictures.proofs.key_slots.scan.meet.Goals.{then-is_none-via-then
 pub returns-then-is_none : goal.returns-then-is_none
 returns-then-is_none g c = λ target scanned.
     let units = c.args.units.now in
-    let Waits = IsWaiting units.numbers.now units.places.now in
+    let Waits = IsWaiting units.numbers.now units.key_slots.now in
     let id = get_or units.ids.now c.args.at c.index-units-at.result in
     scan_passes (zip units.ids.now units.outcomes.now) Waits target c.args.at c.args.scan.now.wanted.items
     c.args.scan.now.needed.items scanned
@@ -34,7 +34,7 @@ returns-then-is_none g c = λ target scanned.
 pub returns-in-Some : goal.returns-in-Some
 returns-in-Some g c =
     let units = c.args.units.now in
-    let Waits = IsWaiting units.numbers.now units.places.now in
+    let Waits = IsWaiting units.numbers.now units.key_slots.now in
     let id = get_or units.ids.now c.args.at c.index-units-at.result in
     let is = valid_of_found units.keys.now units.ids.now units.outcomes.now units.numbers.now c.requires.columns.stand c.args.at c.in-Some.key c.in-Some.ensures.0 in
     let same : id ≡ is.0 =
@@ -56,7 +56,7 @@ returns-in-Some g c =
 pub returns-in-None : goal.returns-in-None
 returns-in-None g c = λ target scanned.
     let units = c.args.units.now in
-    let Waits = IsWaiting units.numbers.now units.places.now in
+    let Waits = IsWaiting units.numbers.now units.key_slots.now in
     let id = get_or units.ids.now c.args.at c.index-units-at.result in
     let some = some_there (get_or units.numbers.now c.args.at c.index-units-at-2.result) c.is_none.result c.is_none.ensures c.if-is_none.false in
     let within : c.args.at < length units.numbers.now = omega (arith, c.requires.within, c.requires.columns.found_many) in

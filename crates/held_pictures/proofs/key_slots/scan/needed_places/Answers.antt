@@ -10,14 +10,14 @@ pub returns-in_default : goal.returns-in_default
 returns-in_default g c =
     let units = c.args.units.now in
     rw c.new.ensures.items
-    (none_needed (zip units.ids.now units.outcomes.now) (IsWaiting units.numbers.now units.places.now) c.args.target c.in_default.ensures)
+    (none_needed (zip units.ids.now units.outcomes.now) (IsWaiting units.numbers.now units.key_slots.now) c.args.target c.in_default.ensures)
 
 pub returns : goal.returns
 returns g c =
     let units = c.args.units.now in
     let found = rw c.new-3.ensures.items at c.in_ok-find.ensures.found in
     c.in_ok-go_down.ensures c.args.target
-    (scan_begins (zip units.ids.now units.outcomes.now) (IsWaiting units.numbers.now units.places.now) c.args.target
+    (scan_begins (zip units.ids.now units.outcomes.now) (IsWaiting units.numbers.now units.key_slots.now) c.args.target
     c.find.new.scan.wanted.items c.find.new.scan.needed.items (c.in-Some.key, c.in-Some.ensures.0, c.in-Some.ensures.1) found
     (λ id is. elim (c.in_ok-find.ensures.only id is) [
       | inl none ↦ absurd (nowhere id (subst (λ (ids : List ℕ). Contains ids id) c.new-2.ensures.items none))

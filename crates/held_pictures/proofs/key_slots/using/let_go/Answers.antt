@@ -3,14 +3,14 @@ use Rattle.std.specs.Prelude.{IsPermutation}
 use Rattle.std.specs.Option.{option_to_list}
 use Rattle.std.specs.Map.{values_of}
 use Rattle.std.proofs.lemmas.Option.{same_Some}
-use Rattle.held_pictures.specs.Places.{pictures_held, slot_at, uses_at}
+use Rattle.held_pictures.specs.KeySlots.{pictures_held, slot_at, uses_at}
 use Rattle.held_pictures.proofs.Bags.{account_none, account_put, gone_held}
 use Rattle.held_pictures.proofs.Slots.{place_used, uses_left, uses_less, places_stay, gone_from, not_gone}
 use Rattle.held_pictures.proofs.key_slots.using.let_go.Goals as goal
 
 pub returns-in-Some-clause-goes : goal.returns-in-Some-clause-goes
 returns-in-Some-clause-goes g c =
-    let old = c.args.places.now in
+    let old = c.args.key_slots.now in
     let key = c.args.key in
     let uses : ℕ = uses_at old key - 1 in
     let more : uses_at old key ≡ uses + 1 = omega (arith, c.requires.used) in
@@ -30,7 +30,7 @@ returns-in-Some-clause-goes g c =
 
 pub returns-in-Some-clause-those : goal.returns-in-Some-clause-those
 returns-in-Some-clause-those g c = λ number other is.
-    let old = c.args.places.now in
+    let old = c.args.key_slots.now in
     let key = c.args.key in
     let uses : ℕ = uses_at old key - 1 in
     let more : uses_at old key ≡ uses + 1 = omega (arith, c.requires.used) in
@@ -47,7 +47,7 @@ returns-in-Some-clause-those g c = λ number other is.
 
 pub returns-in-None-clause-goes : goal.returns-in-None-clause-goes
 returns-in-None-clause-goes g c =
-    let old = c.args.places.now in
+    let old = c.args.key_slots.now in
     let key = c.args.key in
     let uses : ℕ = uses_at old key - 1 in
     let more : uses_at old key ≡ uses + 1 = omega (arith, c.requires.used) in
@@ -69,7 +69,7 @@ returns-in-None-clause-goes g c =
 
 pub returns-in-Some-clause-accounts : goal.returns-in-Some-clause-accounts
 returns-in-Some-clause-accounts g c =
-    let old = c.args.places.now in
+    let old = c.args.key_slots.now in
     let new = c.let_go.new.self in
     let key = c.args.key in
     let uses : ℕ = uses_at old key - 1 in
@@ -82,7 +82,7 @@ returns-in-Some-clause-accounts g c =
 
 pub returns-in-None-clause-accounts : goal.returns-in-None-clause-accounts
 returns-in-None-clause-accounts g c =
-    let old = c.args.places.now in
+    let old = c.args.key_slots.now in
     let new = c.let_go.new.self in
     let key = c.args.key in
     let uses : ℕ = uses_at old key - 1 in

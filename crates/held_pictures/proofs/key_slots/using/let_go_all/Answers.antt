@@ -4,7 +4,7 @@ use Rattle.std.proofs.lemmas.List.Sorted.{IsPermutation-refl, IsPermutation-tran
 use Rattle.held_pictures.specs.Accounts.{pictures_of}
 use Rattle.std.proofs.lemmas.List.{take_all}
 use Rattle.held_pictures.specs.Counting.{times_in}
-use Rattle.held_pictures.specs.Places.{uses_at, place_at}
+use Rattle.held_pictures.specs.KeySlots.{uses_at, place_at}
 use Rattle.held_pictures.proofs.Going.{none_gone, gone_more, times_in_more, in_use_yet, lost_at_most_one}
 use Rattle.held_pictures.proofs.key_slots.using.let_go_all.Goals as goal
 
@@ -12,19 +12,19 @@ pub loop-key-init : goal.loop-key-init
 loop-key-init g c = record {
   uses = λ number. omega arith;
   stay = λ number used. refl;
-  gone = λ held before. none_gone held c.args.leaving.now c.args.places.now before c.args.cache.now.capacity (keys_of c.args.cache.now.pairs);
+  gone = λ held before. none_gone held c.args.leaving.now c.args.key_slots.now before c.args.cache.now.capacity (keys_of c.args.cache.now.pairs);
   few = omega arith;
-  room = refl;
+  capacity = refl;
   those = λ number picture is. inl is;
-  accounts = IsPermutation-refl (pictures_of c.args.places.now c.args.cache.now.pairs c.args.released.now.items);
+  accounts = IsPermutation-refl (pictures_of c.args.key_slots.now c.args.cache.now.pairs c.args.released.now.items);
   most = omega arith;
   spare = refl;
 }
 
 pub let_go-lost-requires-clause-used : goal.let_go-lost-requires-clause-used
 let_go-lost-requires-clause-used g c =
-    in_use_yet c.args.leaving.now c.loop-key.key-index c.key-item.result (uses_at c.loop-key.places c.key-item.result)
-    (uses_at c.args.places.now c.key-item.result) c.loop-key-test.true c.key-item.is (c.loop-key.invariant.uses c.key-item.result)
+    in_use_yet c.args.leaving.now c.loop-key.key-index c.key-item.result (uses_at c.loop-key.key_slots c.key-item.result)
+    (uses_at c.args.key_slots.now c.key-item.result) c.loop-key-test.true c.key-item.is (c.loop-key.invariant.uses c.key-item.result)
     (c.requires.enough c.key-item.result)
 
 pub loop-key-preserved : goal.loop-key-preserved
@@ -32,13 +32,13 @@ loop-key-preserved g c =
     let leaving = c.args.leaving.now in
     let i = c.loop-key.key-index in
     let key = c.key-item.result in
-    let old = c.args.places.now in
-    let mid = c.loop-key.places in
-    let new = c.let_go-lost.new.places in
+    let old = c.args.key_slots.now in
+    let mid = c.loop-key.key_slots in
+    let new = c.let_go-lost.new.key_slots in
     let used : 0 < uses_at mid key =
     in_use_yet leaving i key (uses_at mid key) (uses_at old key) c.loop-key-test.true c.key-item.is (c.loop-key.invariant.uses key)
     (c.requires.enough key) in
-    let goes = rw (c.loop-key.invariant.room) at c.let_go-lost.ensures.goes in
+    let goes = rw (c.loop-key.invariant.capacity) at c.let_go-lost.ensures.goes in
     record {
       uses = λ number.
           omega (
@@ -61,7 +61,7 @@ loop-key-preserved g c =
             lost_at_most_one mid key (keys_of c.loop-key.cache.pairs) c.args.cache.now.capacity new (keys_of c.let_go-lost.new.cache.pairs)
                 c.let_go-lost.result goes,
           );
-      room = c.let_go-lost.ensures.room ∙ c.loop-key.invariant.room;
+      capacity = c.let_go-lost.ensures.capacity ∙ c.loop-key.invariant.capacity;
       those = λ number picture is.
           elim (c.let_go-lost.ensures.those number picture is) [
             | inl between ↦
@@ -85,7 +85,7 @@ loop-key-preserved g c =
 
 pub returns-clause-uses : goal.returns-clause-uses
 returns-clause-uses g c = λ number.
-    subst (λ keys. uses_at c.loop-key.places number + times_in number keys ≡ uses_at c.args.places.now number)
+    subst (λ keys. uses_at c.loop-key.key_slots number + times_in number keys ≡ uses_at c.args.key_slots.now number)
     (take_all c.loop-key.key-index c.args.leaving.now c.loop-key-test.false) (c.loop-key.invariant.uses number)
 
 pub returns-clause-gone : goal.returns-clause-gone

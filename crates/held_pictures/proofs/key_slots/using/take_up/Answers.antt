@@ -3,14 +3,14 @@ use Rattle.std.specs.Map.{keys_of}
 use Rattle.std.proofs.lemmas.List.Sorted.{IsPermutation-refl}
 use Rattle.held_pictures.specs.Accounts.{pictures_kept}
 use Rattle.held_pictures.specs.Counting.{once_at}
-use Rattle.held_pictures.specs.Places.{IsTakenUp}
+use Rattle.held_pictures.specs.KeySlots.{IsTakenUp}
 use Rattle.held_pictures.proofs.Taking.{none_up}
 use Rattle.held_pictures.proofs.Turns.{left_named, none_named}
 use Rattle.held_pictures.proofs.key_slots.using.take_up.Goals as goal
 
 pub returns-in-Some-clause-up : goal.returns-in-Some-clause-up
 returns-in-Some-clause-up g c = λ number.
-    subst (λ key. IsTakenUp c.args.places.now c.args.cache.now.pairs (once_at number key) c.take_up_one.new.places number)
+    subst (λ key. IsTakenUp c.args.key_slots.now c.args.cache.now.pairs (once_at number key) c.take_up_one.new.key_slots number)
     (sym c.in-Some.is) (c.take_up_one.ensures.up number)
 
 pub returns-in-Some-clause-left : goal.returns-in-Some-clause-left
@@ -24,12 +24,12 @@ returns-in-Some-clause-others g c = λ number apart.
 
 pub returns-in_default-clause-up : goal.returns-in_default-clause-up
 returns-in_default-clause-up g c = λ number.
-    subst (λ key. IsTakenUp c.args.places.now c.args.cache.now.pairs (once_at number key) c.args.places.now number)
-    (sym c.in_default.is) (none_up c.args.places.now c.args.cache.now.pairs number)
+    subst (λ key. IsTakenUp c.args.key_slots.now c.args.cache.now.pairs (once_at number key) c.args.key_slots.now number)
+    (sym c.in_default.is) (none_up c.args.key_slots.now c.args.cache.now.pairs number)
 
 pub returns-in_default-clause-left : goal.returns-in_default-clause-left
 returns-in_default-clause-left g c =
     none_named c.args.key (keys_of c.args.cache.now.pairs) c.in_default.is
 
 pub returns-in_default-clause-accounts : goal.returns-in_default-clause-accounts
-returns-in_default-clause-accounts g c = λ apart. IsPermutation-refl (pictures_kept c.args.places.now c.args.cache.now.pairs)
+returns-in_default-clause-accounts g c = λ apart. IsPermutation-refl (pictures_kept c.args.key_slots.now c.args.cache.now.pairs)

@@ -5,8 +5,8 @@ use Rattle.output_order.specs.Periods.{valid_in}
 use Rattle.output_order.proofs.OrderedKeys.{length-order_keys}
 use Rattle.output_order.proofs.period.Period.rank.Goals as goal
 
-pub rank-requires-clause-room : goal.rank-requires-clause-room
-rank-requires-clause-room c =
+pub rank-requires-clause-spare : goal.rank-requires-clause-spare
+rank-requires-clause-spare c =
     let period = c.self.inside in
     let long : length c.deref.result.now ≡ valid_in c.args.self.now.units = ap length c.deref.ensures.value
     ∙ length_permutation _ _ c.self.invariant.order.permutation ∙ length-order_keys 0 period.units.items ∙ ap (λ one. valid_in one.units) c.self.view_is in

@@ -1,5 +1,5 @@
 use Rattle.std.proofs.Common.{◌≡◌, ◌-◌, ◌<◌, get_or, length, ap, ◌∙◌, arith}
-use Rattle.output_order.specs.Kept.{count_at}
+use Rattle.output_order.specs.PeriodLists.{count_at}
 use Rattle.output_order.proofs.Starts.{period_fits}
 use Rattle.output_order.proofs.periods.Periods.len.Goals as goal
 

@@ -7,7 +7,7 @@ use Rattle.output_order.specs.declared.order_key.OrderKey.{OrderKey}
 use Rattle.output_order.specs.OrderKeys.{is_first, order_keys}
 use Rattle.output_order.specs.Periods.{units_of, valid_in}
 use Rattle.output_order.specs.Bounds.{period_size}
-use Rattle.output_order.specs.Kept.{count_at}
+use Rattle.output_order.specs.PeriodLists.{count_at}
 use Rattle.output_order.proofs.OrderedKeys.{length-order_keys}
 use Rattle.output_order.proofs.Starts.{period_fits}
 use Rattle.output_order.proofs.Finds.{position_found, size_found}
@@ -44,9 +44,9 @@ rank-requires c =
     let periods = c.self.inside.periods.items in
     let found = rw (← c.self.view_is) at c.period_at-at.ensures in
     let d = c.index-period.result.now in
-    let room = rw (← c.self.view_is) at c.requires.room in
+    let spare = rw (← c.self.view_is) at c.requires.spare in
     let long : length d.units ≡ length (get_or periods c.period_at-at.result d).units = ap (λ one. length one.units) c.index-period.ensures in
-    omega (arith, period_fits periods c.period_at-at.result d found.inside, count_by-le-length is_some d.units, long, room)
+    omega (arith, period_fits periods c.period_at-at.result d found.inside, count_by-le-length is_some d.units, long, spare)
 
 pub overflow_add-result : goal.overflow_add-result
 overflow_add-result c =

@@ -1,7 +1,7 @@
 use Rattle.std.proofs.Common.{◌≡◌, [], sym, ap, ◌∙◌, subst}
 use Rattle.std.proofs.lemmas.Bool.{true≢false}
 use Rattle.std.proofs.lemmas.Result.{IfOk-weaker}
-use Rattle.output_order.specs.Kept.{Change, IsSplice}
+use Rattle.output_order.specs.PeriodLists.{Change, IsSplice}
 use Rattle.output_order.specs.Places.{change_inside}
 use Rattle.output_order.proofs.ChangedInside.{inside_is, touched_inside}
 use Rattle.output_order.proofs.periods.Periods.prepare_splice.Goals as goal
@@ -15,7 +15,7 @@ returns-then-is_inside-clause-splice c =
     let units = c.args.units.now in
     let inside = c.is_inside.ensures.0 c.if-is_inside.true in
     let is : IsSplice (change_inside touched.result low high units) periods low high units =
-    inside_is periods touched.ensures.periods touched.result low high units c.requires.ordered touched.ensures.touched inside (record { units = []; room = 0 }) c.requires.fits in
+    inside_is periods touched.ensures.periods touched.result low high units c.requires.ordered touched.ensures.touched inside (record { units = []; spare = 0 }) c.requires.fits in
     IfOk-weaker c.splice_inside.result (λ (splice : Change). splice ≡ change_inside touched.result low high units) (λ splice. IsSplice splice periods low high units)
     (λ splice same. subst (λ (one : Change). IsSplice one periods low high units) (sym same) is) c.splice_inside.ensures
 

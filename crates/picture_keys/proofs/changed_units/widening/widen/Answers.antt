@@ -3,7 +3,7 @@ use Rattle.std.proofs.lemmas.Bool.{false≢true}
 use Rattle.std.proofs.lemmas.Option.{slice_get-get_or}
 use Rattle.std.proofs.lemmas.List.{take_all}
 use Rattle.picture_keys.specs.Units.{ComparedUnit, units_in}
-use Rattle.picture_keys.specs.Stretches.{IsLeast}
+use Rattle.picture_keys.specs.Ranges.{IsLeast}
 use Rattle.picture_keys.proofs.Least.{behind_more, least_next_more, least_next_same}
 use Rattle.picture_keys.proofs.Lists.{contained}
 use Rattle.picture_keys.proofs.Rows.{length-compared}

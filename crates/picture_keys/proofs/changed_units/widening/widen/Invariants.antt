@@ -1,9 +1,9 @@
 use Rattle.std.proofs.Common.{◌≡◌, ℕ, ◌+◌, ◌≤◌, ◌++◌, ◌↔◌, List, length, take, Contains}
 use Rattle.picture_keys.specs.Units.{ComparedUnit, units_in}
-use Rattle.picture_keys.specs.Stretches.{IsLeast}
+use Rattle.picture_keys.specs.Ranges.{IsLeast}
 use Rattle.picture_keys.proofs.changed_units.widening.widen.Given as goal
 
--- the stretch is the least one for the units so far
+-- the range is the least one for the units so far
 abbrev pub invariant-loop-index : goal.invariant-loop-index
 invariant-loop-index l =
     record {

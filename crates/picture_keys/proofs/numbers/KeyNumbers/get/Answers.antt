@@ -9,7 +9,7 @@ pub returns-in-Some-clause-ok : goal.returns-in-Some-clause-ok
 returns-in-Some-clause-ok c =
     let s = c.self.inside in
     rw (← c.self.view_is)
-    (in_first s.later.entries (numbers_over [] s.ids.now s.found.now) c.args.id c.in-Some.key.now
+    (in_first s.later.entries (numbers_over [] s.ids.now s.numbers.now) c.args.id c.in-Some.key.now
     (ap (λ n. number_at s.later.entries n) (sym c.number.ensures)
     ∙ (sym c.get.ensures.value ∙ ap (λ key. option_copied key) c.in-Some.is)))
 
@@ -18,7 +18,7 @@ returns-in-None-clause-ok c =
     let s = c.self.inside in
     rw (← c.self.view_is)
     (subst (λ wanted. IfOk c.seen_or_among.result (λ number. number ≡ wanted))
-    (in_second s.later.entries (numbers_over [] s.ids.now s.found.now) c.args.id
+    (in_second s.later.entries (numbers_over [] s.ids.now s.numbers.now) c.args.id
     (ap (λ n. number_at s.later.entries n) (sym c.number.ensures)
     ∙ (sym c.get.ensures.value ∙ ap (λ key. option_copied key) c.in-None.is)))
     c.seen_or_among.ensures.ok)

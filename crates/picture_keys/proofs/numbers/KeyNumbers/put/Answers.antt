@@ -9,7 +9,7 @@ pub returns-clause-ok : goal.returns-clause-ok
 returns-clause-ok c = λ other.
     let s = c.self.inside in
     rw (← c.self.view_is)
-    (put_joined s.later.entries c.insert.new.self.entries (numbers_over [] s.ids.now s.found.now) c.args.id c.args.key
+    (put_joined s.later.entries c.insert.new.self.entries (numbers_over [] s.ids.now s.numbers.now) c.args.id c.args.key
     (λ q. c.in_ok-insert.ensures.updates.0 q
     ∙ ap (λ test. if test then Some c.args.key else number_at s.later.entries q)
     (ap (λ n. is_at (nat_cmp n) q) c.number.ensures ∙ test_at c.args.id q)) other)

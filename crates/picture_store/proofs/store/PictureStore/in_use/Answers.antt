@@ -10,7 +10,7 @@ use Rattle.picture_store.proofs.store.PictureStore.in_use.Goals as goal
 pub returns-clause-value : goal.returns-clause-value
 returns-clause-value g c =
     let s = c.self.inside in
-    let store = viewed s.keys s.ids.items s.outcomes.items s.numbers.items s.places s.cache.pairs s.cache.capacity s.jobs_out.items s.jobs_given s.released.items (marked_for s.keys s.mark) in
+    let store = viewed s.keys s.ids.items s.outcomes.items s.numbers.items s.key_slots s.cache.pairs s.cache.capacity s.jobs_out.items s.jobs_given s.released.items (marked_for s.keys s.mark) in
     let listed : IsTrue c.is_some.result ↔ Contains s.numbers.items (Some c.args.key) =
     rw (c.is_some.ensures, c.get.ensures) (c.self.invariant.kept.used c.args.key) in
     rw (← c.self.view_is) (

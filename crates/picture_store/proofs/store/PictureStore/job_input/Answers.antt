@@ -1,6 +1,6 @@
 use Rattle.std.proofs.Common.{sym, subst}
 use Rattle.std.proofs.lemmas.List.Elements.{All-get_or}
-use Rattle.picture_store.specs.Kept.{IsJobRight}
+use Rattle.picture_store.specs.Stored.{IsJobRight}
 use Rattle.picture_store.proofs.ByNumber.{input_at, input_none}
 use Rattle.picture_store.proofs.store.PictureStore.job_input.Goals as goal
 

@@ -16,7 +16,7 @@ index-requires g c =
     omega (
       arith,
       within,
-      found_length s.keys s.ids.items s.outcomes.items s.numbers.items s.places s.cache.pairs s.cache.capacity s.jobs_out.items s.jobs_given s.released.items (marked_for s.keys s.mark) c.self.invariant.kept,
+      found_length s.keys s.ids.items s.outcomes.items s.numbers.items s.key_slots s.cache.pairs s.cache.capacity s.jobs_out.items s.jobs_given s.released.items (marked_for s.keys s.mark) c.self.invariant.kept,
       s.numbers.ok.0,
     )
 
@@ -25,12 +25,12 @@ returns-clause-value g c =
     let s = c.self.inside in
     let inside = rw (← c.self.view_is) at c.requires in
     let within : c.args.at < length s.numbers.items =
-    omega (arith, inside, found_length s.keys s.ids.items s.outcomes.items s.numbers.items s.places s.cache.pairs s.cache.capacity s.jobs_out.items s.jobs_given s.released.items (marked_for s.keys s.mark) c.self.invariant.kept) in
+    omega (arith, inside, found_length s.keys s.ids.items s.outcomes.items s.numbers.items s.key_slots s.cache.pairs s.cache.capacity s.jobs_out.items s.jobs_given s.released.items (marked_for s.keys s.mark) c.self.invariant.kept) in
     let read : slice_get s.numbers.items c.args.at ≡ Some c.index.result.now =
     slice_get_read s.numbers.items (length s.numbers.items) c.args.at c.index.result.now refl within c.index.ensures in
     rw (← c.self.view_is)
     (number_seen s.keys
-    (viewed s.keys s.ids.items s.outcomes.items s.numbers.items s.places s.cache.pairs s.cache.capacity s.jobs_out.items s.jobs_given s.released.items (marked_for s.keys s.mark))
+    (viewed s.keys s.ids.items s.outcomes.items s.numbers.items s.key_slots s.cache.pairs s.cache.capacity s.jobs_out.items s.jobs_given s.released.items (marked_for s.keys s.mark))
     c.self.invariant.kept.stand c.args.at c.index.result.now read)
 
 pub returns-clause-one : goal.returns-clause-one

@@ -23,9 +23,9 @@ after_landing-requires-clause-right g c =
     let decoded = (rw (← c.self.view_is) at c.requires.decoded) (seen s.keys c.remove-job.result)
     (got_at (seen s.keys) s.jobs_out.items c.args.at c.remove-job.result within c.remove-job.ensures.value) in
     let filled = c.fill-landing.ensures.filled in
-    (kept_filled s.keys s.ids.items s.outcomes.items s.numbers.items s.places s.cache.pairs s.cache.capacity s.jobs_out.items s.jobs_given s.released.items (marked_for s.keys s.mark)
+    (kept_filled s.keys s.ids.items s.outcomes.items s.numbers.items s.key_slots s.cache.pairs s.cache.capacity s.jobs_out.items s.jobs_given s.released.items (marked_for s.keys s.mark)
     c.self.invariant.kept c.args.at within c.remove-job.result c.remove-job.ensures.value c.args.picture decoded
-    c.fill-landing.result c.fill-landing.new.places c.remove-job.new.self.items c.remove-job.ensures.items filled).right
+    c.fill-landing.result c.fill-landing.new.key_slots c.remove-job.new.self.items c.remove-job.ensures.items filled).right
 
 pub invariant_of-self : goal.invariant_of-self
 invariant_of-self g c =
@@ -36,28 +36,28 @@ invariant_of-self g c =
     let filled = c.fill-landing.ensures.filled in
     record {
       kept =
-          kept_filled s.keys s.ids.items s.outcomes.items s.numbers.items s.places s.cache.pairs s.cache.capacity s.jobs_out.items s.jobs_given s.released.items (marked_for s.keys s.mark)
+          kept_filled s.keys s.ids.items s.outcomes.items s.numbers.items s.key_slots s.cache.pairs s.cache.capacity s.jobs_out.items s.jobs_given s.released.items (marked_for s.keys s.mark)
           c.self.invariant.kept c.args.at within c.remove-job.result c.remove-job.ensures.value c.args.picture decoded
-          c.fill-landing.result c.fill-landing.new.places c.remove-job.new.self.items c.remove-job.ensures.items filled;
+          c.fill-landing.result c.fill-landing.new.key_slots c.remove-job.new.self.items c.remove-job.ensures.items filled;
       counted = λ number. c.fill-landing.ensures.uses number ∙ c.self.invariant.counted number;
       apart = λ number used. c.self.invariant.apart number (subst (λ n. 0 < n) (c.fill-landing.ensures.uses number) used);
       settled =
-          settled_landed s.keys s.ids.items s.outcomes.items s.numbers.items s.places s.cache.pairs s.jobs_out.items
-          c.self.invariant.kept c.args.at c.remove-job.result c.remove-job.ensures.value _ c.fill-landing.result c.fill-landing.new.places
+          settled_landed s.keys s.ids.items s.outcomes.items s.numbers.items s.key_slots s.cache.pairs s.jobs_out.items
+          c.self.invariant.kept c.args.at c.remove-job.result c.remove-job.ensures.value _ c.fill-landing.result c.fill-landing.new.key_slots
           c.remove-job.new.self.items s.units_settled c.remove-job.ensures.items filled c.self.invariant.settled;
-      looked =
-          looked_landed s.keys s.ids.items s.outcomes.items s.numbers.items s.places s.cache.pairs s.jobs_out.items
+      searched =
+          looked_landed s.keys s.ids.items s.outcomes.items s.numbers.items s.key_slots s.cache.pairs s.jobs_out.items
           c.self.invariant.kept c.args.at within c.remove-job.result c.remove-job.ensures.value _ c.fill-landing.result
-          c.fill-landing.new.places c.remove-job.new.self.items s.units_not_due c.looked_after-self-inside.result c.remove-job.ensures.items filled
-          c.looked_after-self-inside.ensures.before c.looked_after-self-inside.ensures.front c.self.invariant.behind c.self.invariant.looked;
+          c.fill-landing.new.key_slots c.remove-job.new.self.items s.units_not_due c.searched_after-self-inside.result c.remove-job.ensures.items filled
+          c.searched_after-self-inside.ensures.before c.searched_after-self-inside.ensures.front c.self.invariant.behind c.self.invariant.searched;
       behind =
-          behind_left s.keys s.ids.items s.outcomes.items s.numbers.items s.places s.cache.pairs s.jobs_out.items
+          behind_left s.keys s.ids.items s.outcomes.items s.numbers.items s.key_slots s.cache.pairs s.jobs_out.items
           c.self.invariant.kept c.args.at within c.remove-job.result c.remove-job.ensures.value c.remove-job.new.self.items
           c.remove-job.ensures.items c.self.invariant.behind;
       scheduled =
-          scheduled_landed s.keys s.ids.items s.outcomes.items s.numbers.items s.places s.cache.pairs s.jobs_out.items
+          scheduled_landed s.keys s.ids.items s.outcomes.items s.numbers.items s.key_slots s.cache.pairs s.jobs_out.items
           c.self.invariant.kept c.args.at c.remove-job.result c.remove-job.ensures.value _ c.fill-landing.result
-          c.fill-landing.new.places c.remove-job.new.self.items c.remove-job.ensures.items filled s.schedule
+          c.fill-landing.new.key_slots c.remove-job.new.self.items c.remove-job.ensures.items filled s.schedule
           c.if_ready-schedule.result c.after_landing.result c.self.invariant.scheduled
           (if_ready_at c.take.result s.schedule c.if_ready-schedule.result c.take.ensures.value c.if_ready-schedule.ensures)
           (rw (c.deref.ensures.value, c.deref-2.ensures.value) at c.after_landing.ensures);
@@ -72,6 +72,6 @@ returns g c =
     (got_at (seen s.keys) s.jobs_out.items c.args.at c.remove-job.result within c.remove-job.ensures.value) in
     let filled = c.fill-landing.ensures.filled in
     rw (← c.self.view_is)
-    (landed s.keys s.ids.items s.outcomes.items s.numbers.items s.places s.cache.pairs s.cache.capacity s.jobs_out.items s.jobs_given s.released.items (marked_for s.keys s.mark)
+    (landed s.keys s.ids.items s.outcomes.items s.numbers.items s.key_slots s.cache.pairs s.cache.capacity s.jobs_out.items s.jobs_given s.released.items (marked_for s.keys s.mark)
     c.self.invariant.kept c.args.at within c.remove-job.result c.remove-job.ensures.value c.args.picture decoded
-    c.fill-landing.result c.fill-landing.new.places c.remove-job.new.self.items c.remove-job.ensures.items filled)
+    c.fill-landing.result c.fill-landing.new.key_slots c.remove-job.new.self.items c.remove-job.ensures.items filled)

@@ -17,7 +17,7 @@ invariant_of-self g c =
       counted = c.self.invariant.counted;
       apart = c.self.invariant.apart;
       settled = c.self.invariant.settled;
-      looked = c.self.invariant.looked;
+      searched = c.self.invariant.searched;
       behind = c.self.invariant.behind;
       scheduled = c.self.invariant.scheduled;
       marked =
@@ -36,4 +36,4 @@ returns-clause-ok g c =
     ∙ ap (λ (keys : List Key). Some keys)
     (keys_listed s.keys s.numbers.items (keys_of (zip s.ids.items s.outcomes.items)) c.self.invariant.kept.stand) in
     rw (← c.self.view_is)
-    (ap (λ (marked : Marked). viewed s.keys s.ids.items s.outcomes.items s.numbers.items s.places s.cache.pairs s.cache.capacity s.jobs_out.items s.jobs_given s.released.items marked) seen)
+    (ap (λ (marked : Marked). viewed s.keys s.ids.items s.outcomes.items s.numbers.items s.key_slots s.cache.pairs s.cache.capacity s.jobs_out.items s.jobs_given s.released.items marked) seen)

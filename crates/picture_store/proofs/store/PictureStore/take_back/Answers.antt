@@ -11,12 +11,12 @@ invariant_of-self g c =
     rw (c.remove.ensures.items)
     (record {
       kept =
-          kept_without s.keys s.ids.items s.outcomes.items s.numbers.items s.places s.cache.pairs s.jobs_out.items c.self.invariant.kept
+          kept_without s.keys s.ids.items s.outcomes.items s.numbers.items s.key_slots s.cache.pairs s.jobs_out.items c.self.invariant.kept
           c.args.at;
       counted = c.self.invariant.counted;
       apart = c.self.invariant.apart;
-      settled = none_settled s.places _ s.numbers.items;
-      looked = none_looked s.keys s.places _ s.numbers.items;
+      settled = none_settled s.key_slots _ s.numbers.items;
+      searched = none_looked s.keys s.key_slots _ s.numbers.items;
       behind = all_without (IsBehind s.numbers.items) s.jobs_out.items c.args.at c.self.invariant.behind;
       scheduled = tt;
       marked = c.self.invariant.marked;
@@ -26,5 +26,5 @@ pub returns : goal.returns
 returns g c =
     let s = c.self.inside in
     rw (← c.self.view_is)
-    (seen_without s.keys s.ids.items s.outcomes.items s.numbers.items s.places s.cache.pairs s.cache.capacity s.jobs_out.items
+    (seen_without s.keys s.ids.items s.outcomes.items s.numbers.items s.key_slots s.cache.pairs s.cache.capacity s.jobs_out.items
     c.remove.new.self.items s.jobs_given s.released.items (marked_for s.keys s.mark) c.args.at c.remove.ensures.items)

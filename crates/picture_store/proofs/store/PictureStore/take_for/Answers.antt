@@ -4,7 +4,7 @@ use Rattle.std.specs.List.{zip}
 use Rattle.std.specs.BinaryHeap.{heap_items}
 use Rattle.std.proofs.lemmas.Result.{err_from_is_err_and}
 use Rattle.picture_store.specs.Stores.{StoreValue}
-use Rattle.picture_store.specs.TakingFor.{TellsTakeFor}
+use Rattle.picture_store.specs.TakingFor.{AnswersTakeWithUnitFor}
 use Rattle.picture_store.specs.Marks.{marked_for}
 use Rattle.picture_store.proofs.Landed.{found_length}
 use Rattle.picture_store.proofs.Scheduling.{scheduled_left}
@@ -18,7 +18,7 @@ schedule_for-requires-clause-columns g c =
     rw (c.deref.ensures.value, c.deref-2.ensures.value, c.deref-3.ensures.value) (record {
       outcomes_many = sym c.self.invariant.kept.same;
       found_many =
-          found_length s.keys s.ids.items s.outcomes.items s.numbers.items s.places s.cache.pairs s.cache.capacity s.jobs_out.items s.jobs_given s.released.items (marked_for s.keys s.mark)
+          found_length s.keys s.ids.items s.outcomes.items s.numbers.items s.key_slots s.cache.pairs s.cache.capacity s.jobs_out.items s.jobs_given s.released.items (marked_for s.keys s.mark)
           c.self.invariant.kept;
       one = c.self.invariant.kept.right.one;
       stand = c.self.invariant.kept.stand;
@@ -37,10 +37,10 @@ invariant_of-self-in_default g c =
       counted = c.self.invariant.counted;
       apart = c.self.invariant.apart;
       settled = c.self.invariant.settled;
-      looked = c.self.invariant.looked;
+      searched = c.self.invariant.searched;
       behind = c.self.invariant.behind;
       scheduled = rw are.0
-          (scheduled_left s.keys (zip s.ids.items s.outcomes.items) s.numbers.items s.places s.jobs_out.items c.args.at
+          (scheduled_left s.keys (zip s.ids.items s.outcomes.items) s.numbers.items s.key_slots s.jobs_out.items c.args.at
           schedule.dependents.items (heap_items schedule.queue) (heap_items c.earliest_due-due.new.queue) left.ordered left.stay
           left.only are.1);
       marked = c.self.invariant.marked;
@@ -59,10 +59,10 @@ invariant_of-self-2 g c =
       counted = c.self.invariant.counted;
       apart = c.self.invariant.apart;
       settled = c.self.invariant.settled;
-      looked = c.self.invariant.looked;
+      searched = c.self.invariant.searched;
       behind = c.self.invariant.behind;
       scheduled = rw are.0
-          (scheduled_left s.keys (zip s.ids.items s.outcomes.items) s.numbers.items s.places s.jobs_out.items c.args.at
+          (scheduled_left s.keys (zip s.ids.items s.outcomes.items) s.numbers.items s.key_slots s.jobs_out.items c.args.at
           schedule.dependents.items (heap_items schedule.queue) (heap_items c.earliest_due-due.new.queue) left.ordered left.stay
           left.only are.1);
       marked = c.self.invariant.marked;
@@ -77,7 +77,7 @@ returns-in_default-clause-tells g c =
     let schedule = c.in_ok-schedule.schedule in
     let none = rw (c.deref-5.ensures.value, c.deref-6.ensures.value) at c.in_default.ensures.due in
     rw (← c.self.view_is) (
-      λ any. none_needed_due s.keys s.ids.items s.outcomes.items s.numbers.items s.places s.cache.pairs s.cache.capacity s.jobs_out.items s.jobs_given s.released.items (marked_for s.keys s.mark)
+      λ any. none_needed_due s.keys s.ids.items s.outcomes.items s.numbers.items s.key_slots s.cache.pairs s.cache.capacity s.jobs_out.items s.jobs_given s.released.items (marked_for s.keys s.mark)
           c.self.invariant.kept c.args.at schedule.dependents.items (heap_items schedule.queue) are.1 none any.0 any.1 any.2,
       refl,
     )
@@ -91,7 +91,7 @@ returns-in_default-clause-waits g c =
     let schedule = c.in_ok-schedule.schedule in
     let none = rw (c.deref-5.ensures.value, c.deref-6.ensures.value) at c.in_default.ensures.due in
     rw (← c.self.view_is)
-    (λ is pending. one_needed_out s.keys s.ids.items s.outcomes.items s.numbers.items s.places s.cache.pairs s.cache.capacity s.jobs_out.items s.jobs_given s.released.items (marked_for s.keys s.mark)
+    (λ is pending. one_needed_out s.keys s.ids.items s.outcomes.items s.numbers.items s.key_slots s.cache.pairs s.cache.capacity s.jobs_out.items s.jobs_given s.released.items (marked_for s.keys s.mark)
     c.self.invariant.kept c.args.at schedule.dependents.items (heap_items schedule.queue) are.1 none pending)
 
 pub give-requires-clause-due : goal.give-requires-clause-due
@@ -102,7 +102,7 @@ give-requires-clause-due g c =
     c.in_ok-schedule.ensures in
     let schedule = c.in_ok-schedule.schedule in
     let is = rw (c.deref-5.ensures.value, c.deref-6.ensures.value) at c.in-Some.ensures.due in
-    is_due s.keys s.ids.items s.outcomes.items s.numbers.items s.places s.cache.pairs s.cache.capacity s.jobs_out.items s.jobs_given s.released.items (marked_for s.keys s.mark)
+    is_due s.keys s.ids.items s.outcomes.items s.numbers.items s.key_slots s.cache.pairs s.cache.capacity s.jobs_out.items s.jobs_given s.released.items (marked_for s.keys s.mark)
     c.self.invariant.kept c.args.at schedule.dependents.items (heap_items schedule.queue) are.1 c.in-Some.place c.in-Some.key is
 
 pub returns-in_err-give-clause-tells : goal.returns-in_err-give-clause-tells
@@ -115,12 +115,12 @@ returns-in_err-give-clause-tells g c =
     let is = rw (c.deref-5.ensures.value, c.deref-6.ensures.value) at c.in-Some.ensures.due in
     let p = err_from_is_err_and c.from_residual-in_err-give.result c.from_residual-in_err-give.ensures.1 in
     rw (p.1, p.2)
-    (subst (λ (old : StoreValue g.row.P.Denot). TellsTakeFor g.P.Decoded.IsOf old c.args.at (Err c.in_err-give.field-0.0) c.give.new.self) c.self.view_is
-    (refusal_told g.P.Decoded.IsOf (viewed s.keys s.ids.items s.outcomes.items s.numbers.items s.places s.cache.pairs s.cache.capacity s.jobs_out.items s.jobs_given s.released.items (marked_for s.keys s.mark))
+    (subst (λ (old : StoreValue g.row.P.Denot). AnswersTakeWithUnitFor g.P.Decoded.IsOf old c.args.at (Err c.in_err-give.field-0.0) c.give.new.self) c.self.view_is
+    (refusal_told g.P.Decoded.IsOf (viewed s.keys s.ids.items s.outcomes.items s.numbers.items s.key_slots s.cache.pairs s.cache.capacity s.jobs_out.items s.jobs_given s.released.items (marked_for s.keys s.mark))
     c.args.at c.in-Some.place c.in_err-give.field-0.0 c.give.new.self
-    (is_needed s.keys s.ids.items s.outcomes.items s.numbers.items s.places s.cache.pairs s.cache.capacity s.jobs_out.items s.jobs_given s.released.items (marked_for s.keys s.mark)
+    (is_needed s.keys s.ids.items s.outcomes.items s.numbers.items s.key_slots s.cache.pairs s.cache.capacity s.jobs_out.items s.jobs_given s.released.items (marked_for s.keys s.mark)
     c.self.invariant.kept c.args.at schedule.dependents.items (heap_items schedule.queue) are.1 c.in-Some.place c.in-Some.key is)
-    (is_due s.keys s.ids.items s.outcomes.items s.numbers.items s.places s.cache.pairs s.cache.capacity s.jobs_out.items s.jobs_given s.released.items (marked_for s.keys s.mark)
+    (is_due s.keys s.ids.items s.outcomes.items s.numbers.items s.key_slots s.cache.pairs s.cache.capacity s.jobs_out.items s.jobs_given s.released.items (marked_for s.keys s.mark)
     c.self.invariant.kept c.args.at schedule.dependents.items (heap_items schedule.queue) are.1 c.in-Some.place c.in-Some.key is) c.in_err-give.ensures))
 
 pub returns-clause-tells : goal.returns-clause-tells
@@ -132,6 +132,6 @@ returns-clause-tells g c =
     let schedule = c.in_ok-schedule.schedule in
     let is = rw (c.deref-5.ensures.value, c.deref-6.ensures.value) at c.in-Some.ensures.due in
     rw (← c.self.view_is)
-    (job_told s.keys s.ids.items s.outcomes.items s.numbers.items s.places s.cache.pairs s.cache.capacity s.jobs_out.items s.jobs_given s.released.items (marked_for s.keys s.mark)
+    (job_told s.keys s.ids.items s.outcomes.items s.numbers.items s.key_slots s.cache.pairs s.cache.capacity s.jobs_out.items s.jobs_given s.released.items (marked_for s.keys s.mark)
     c.self.invariant.kept c.args.at schedule.dependents.items (heap_items schedule.queue) are.1 c.in-Some.place c.in-Some.key is c.in_ok-give.field-0
     c.give.new.self c.in_ok-give.ensures)

@@ -1,5 +1,5 @@
 use Rattle.std.proofs.Common.{◌<◌, ◌≤◌, ℕ, List, length, arith}
-use Rattle.access_unit.specs.Rooms.{most_units}
+use Rattle.access_unit.specs.StreamUnits.{most_units}
 use Rattle.plan_stream.proofs.Gathers.{comes-past, comes-some, comes-taken}
 use Rattle.plan_stream.proofs.gathering.StreamGathering.fold_unit.Goals as goal
 

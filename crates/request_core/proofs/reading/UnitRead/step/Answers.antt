@@ -1,7 +1,7 @@
 use Rattle.std.proofs.Common.{ap, ◌∙◌}
 use Rattle.unit_outcomes.specs.declared.outcome.Outcome.TheVariants.{Fault}
 use Rattle.request_core.proofs.Readings.{step_faulted, step_found}
-use Rattle.request_core.specs.Findings.{step_in}
+use Rattle.request_core.specs.StepResults.{step_in}
 use Rattle.request_core.specs.Readings.{ReadUnit}
 use Rattle.request_core.specs.States.{FoldState}
 use Rattle.request_core.proofs.reading.UnitRead.step.Goals as goal

@@ -1,6 +1,6 @@
 use Rattle.std.proofs.Common.{inl, subst, sym}
 use Rattle.std.proofs.KnownBytes.{Keeps-refl}
-use Rattle.script_run.proofs.Told.{err-all}
+use Rattle.script_run.proofs.Unread.{err-all}
 use Rattle.script_run.specs.Audits.{StopsAudit}
 use Rattle.script_run.proofs.shared.audit.audit_text.Goals as goal
 

@@ -2,7 +2,7 @@ use Rattle.std.proofs.Common.{◌∙◌, ◌∷◌, [], ap, append_assoc, string
 use Rattle.std.specs.Vec.Iter.{into_iter_items}
 use Rattle.script_run.specs.RunFaults.{fault_of_print}
 use Rattle.script_run.proofs.Sequenced.{written-push, stops-before, stops-within}
-use Rattle.script_run.proofs.Told.{err-all}
+use Rattle.script_run.proofs.Unread.{err-all}
 use Rattle.script_run.specs.SharedRunning.{Answers}
 use Rattle.script_run.specs.SharedStops.{IsCommandFault}
 use Rattle.script_run.proofs.SharedRan.{Answers-same}

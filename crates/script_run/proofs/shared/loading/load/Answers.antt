@@ -7,8 +7,8 @@ returns-in-Err-Refused-clause-ok g c =
       c.in_ok-text.text,
       c.in_ok-text.ensures.ok,
       (
-        c.saturating_sub-room.result,
-        (c.last.result, c.last.ensures, c.saturating_sub-room.ensures),
+        c.saturating_sub-capacity.result,
+        (c.last.result, c.last.ensures, c.saturating_sub-capacity.ensures),
         inr (_, read, c.in_ok-to_string-in-Err-Refused.ensures.ok, refl),
       ),
     )

@@ -1,4 +1,4 @@
-use Rattle.stand_in_session.specs.declared.dropping.Dropping.TheVariants as dropping
+use Rattle.stand_in_session.specs.declared.jobs.Dropping.TheVariants as dropping
 use Rattle.seat_books.proofs.Dropped.{Loses-dropped, Loses-keyless, Loses-plain, Loses-waits}
 use Rattle.seat_books.proofs.replay.Replay.loses.Goals as goal
 

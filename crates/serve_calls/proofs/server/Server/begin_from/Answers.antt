@@ -8,7 +8,7 @@ pub returns-clause-made : goal.returns-clause-made
 returns-clause-made g c = record {
   register = c.in_ok-read.read;
   is_of = c.in_ok-read.ensures.ok;
-  room = c.in_ok-session.ensures.0;
+  capacity = c.in_ok-session.ensures.0;
   session = c.in_ok-session.session;
   begun = c.in_ok-session.ensures.1;
   is = c.begin_anew.ensures.anew;

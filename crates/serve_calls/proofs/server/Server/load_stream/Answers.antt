@@ -1,5 +1,5 @@
 use Rattle.std.proofs.Common.{◌≤◌, List, ℕ, Result, inl, length, refl, subst, sym}
-use Rattle.access_unit.specs.Rooms.{IsStream}
+use Rattle.access_unit.specs.StreamUnits.{IsStream}
 use Rattle.serve_requests.specs.declared.failure.Failure.{Failure}
 use Rattle.serve_answers.specs.declared.answer.Answer.{Answer}
 use Rattle.serve_calls.specs.Recording.{RecordsStream}

@@ -1,5 +1,5 @@
 use Rattle.std.proofs.Common.{Result, inl, subst, sym}
-use Rattle.session_journal.specs.declared.steps.step.Step.TheVariants.{Edits}
+use Rattle.session_journal.specs.declared.steps.step.RecordedStep.TheVariants.{Edits}
 use Rattle.serve_requests.specs.declared.failure.Failure.{Failure}
 use Rattle.serve_answers.specs.declared.answer.Answer.{Answer}
 use Rattle.serve_calls.specs.Recording.{RecordsSome}

@@ -1,5 +1,5 @@
 use Rattle.std.proofs.Common.{◌≡◌, ◌<◌, ℕ, length, refl, sym, ap, ◌∙◌, arith, rules}
-use Rattle.session_journal.specs.Kept.{given_by_step}
+use Rattle.session_journal.specs.RecordRows.{given_by_step}
 use Rattle.session_journal.proofs.LineLemmas.{given_then}
 use Rattle.session_journal.proofs.KeepLemmas.{keep_more, leaves_more}
 use Rattle.session_journal.proofs.session_journal.SessionJournal.keep.Goals as goal

@@ -1,6 +1,6 @@
 use Rattle.std.proofs.Common.{◌≡◌, ◌∷◌, [], List, subst, rules}
 use Rattle.stream_edits.specs.declared.edits.Edit.{Edit}
-use Rattle.session_journal.specs.declared.steps.step.Step.TheVariants.{Edits}
+use Rattle.session_journal.specs.declared.steps.step.RecordedStep.TheVariants.{Edits}
 use Rattle.session_journal.specs.SessionJournalKept.{LeavesOr}
 use Rattle.session_journal.specs.Standing.{CrashLeaves, Standing}
 use Rattle.session_journal.proofs.session_journal.SessionJournalRecords.keep_edit.Goals as goal

@@ -1,6 +1,6 @@
 use Rattle.std.proofs.Common.{◌≡◌, ◌∷◌, ◌+◌, List, drop, sym, ap, ◌∙◌, arith}
 use Rattle.stream_edits.specs.declared.edits.Edit.{Edit}
-use Rattle.session_journal.specs.Kept.{given_after, given_after_edits}
+use Rattle.session_journal.specs.RecordRows.{given_after, given_after_edits}
 use Rattle.session_journal.proofs.KeptLemmas.{drop_item, grows, keep_more, given_more}
 use Rattle.session_journal.proofs.steps.keeping.keep_edits.Goals as goal
 
@@ -11,7 +11,7 @@ loop-edit-preserved c =
     let edit = c.edit-item.result in
     let left : drop l.edit-index edits ≡ edit ∷ drop (l.edit-index + 1) edits = drop_item edits l.edit-index edit c.loop-edit-test.true c.edit-item.is in
     record {
-      kept = rw c.in_ok-push.ensures.items (keep_more l.kept.items _ l.after c.in-Some.more edit _ _ _ left c.in-Some.ensures.some (c.in_ok-kept_of.ensures l.after c.in-Some.ensures.some) l.invariant.kept);
+      kept = rw c.in_ok-push.ensures.items (keep_more l.kept.items _ l.after c.in-Some.more edit _ _ _ left c.in-Some.ensures.some (c.in_ok-row_of.ensures l.after c.in-Some.ensures.some) l.invariant.kept);
       given = given_more l.after c.in-Some.more edit _ _ _ left c.in-Some.ensures.some l.invariant.given;
     }
 

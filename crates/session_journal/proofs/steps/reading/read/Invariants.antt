@@ -1,7 +1,7 @@
 use Rattle.std.proofs.Common.{◌≡◌, ◌≤◌, ◌++◌, ◌-◌, List, length, drop}
 use Rattle.std.specs.List.{AllByRecursion}
-use Rattle.session_journal.specs.declared.steps.step.Step.{Step}
-use Rattle.session_journal.specs.Kept.{IsStep}
+use Rattle.session_journal.specs.declared.steps.step.RecordedStep.{RecordedStep}
+use Rattle.session_journal.specs.RecordRows.{IsStep}
 use Rattle.session_journal.specs.Records.{given_by_steps, lines_of_steps}
 use Rattle.session_journal.proofs.ReadLemmas.{Leads}
 use Rattle.session_journal.proofs.steps.reading.read.Given as goal
@@ -14,7 +14,7 @@ invariant-loop-from l = record {
   lines : l.lines ≡ lines_of_steps 0 1 l.steps.items ++ drop l.from l.lines;
   given : l.given ≡ given_by_steps 0 l.steps.items;
   are : AllByRecursion IsStep l.steps.items;
-  only : (all : List Step) → AllByRecursion IsStep all → l.lines ≡ lines_of_steps 0 1 all → Leads l.steps.items l.given (drop l.from l.lines) all;
+  only : (all : List RecordedStep) → AllByRecursion IsStep all → l.lines ≡ lines_of_steps 0 1 all → Leads l.steps.items l.given (drop l.from l.lines) all;
 }
 
 abbrev pub decreases-loop-from : goal.decreases-loop-from

@@ -1,8 +1,8 @@
 use Rattle.std.proofs.Common.{◌≡◌, ◌+◌, ◌++◌, ◌∷◌, [], ℕ, List, Some, None, map, drop, refl, sym, ap, ◌∙◌}
 use Rattle.std.proofs.lemmas.List.{append-nil, drop_all}
-use Rattle.edit_journal.specs.declared.line.Step.{Step as Kept}
-use Rattle.session_journal.specs.Kept.{kept_of_unit}
-use Rattle.session_journal.specs.Records.{kept_in}
+use Rattle.edit_journal.specs.declared.line.RowStep.{RowStep}
+use Rattle.session_journal.specs.RecordRows.{row_of_unit}
+use Rattle.session_journal.specs.Records.{rows_in}
 use Rattle.session_journal.proofs.KeptLemmas.{drop_item}
 use Rattle.session_journal.proofs.UnitLemmas.{no_unit, units_same}
 use Rattle.session_journal.proofs.steps.reading_units.read_units.Goals as goal
@@ -22,6 +22,6 @@ pub returns-clause-only : goal.returns-clause-only
 returns-clause-only c units is =
     let l = c.loop-line in
     let read = l.units.items in
-    let none : kept_in (drop l.line-index c.args.lines.now) ≡ [] = ap kept_in (drop_all l.line-index c.args.lines.now c.loop-line-test.false) in
-    let all : kept_in c.args.lines.now ≡ map kept_of_unit read = l.invariant ∙ ap (λ (k : List Kept). map kept_of_unit read ++ k) none ∙ append-nil (map kept_of_unit read) in
+    let none : rows_in (drop l.line-index c.args.lines.now) ≡ [] = ap rows_in (drop_all l.line-index c.args.lines.now c.loop-line-test.false) in
+    let all : rows_in c.args.lines.now ≡ map row_of_unit read = l.invariant ∙ ap (λ (k : List RowStep). map row_of_unit read ++ k) none ∙ append-nil (map row_of_unit read) in
     (refl, units_same read units (sym all ∙ is))

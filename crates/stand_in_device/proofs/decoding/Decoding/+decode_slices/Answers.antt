@@ -25,4 +25,4 @@ returns-in_ok-decoding-in-len1-up-clause-digest t c =
     ok_map c.decode_slices.result _ _ c.decode_slices.ensures.digest (λ after law m was.
     let first = rw goes.time_is at c.in_ok-decoding-in-len1-up.ensures.digest in
     let all = rw frames at (law _ (inr (held, first m was))) in
-    subst (λ (n : List ℕ). Holds256 c.decode_slices.new.work.hasher n) (records (record_of c.args.work.now.frames.items) c.args.slices.now c.slice-item.result m goes.whole) all)
+    subst (λ (n : List ℕ). Holds256 c.decode_slices.new.slice_digest.hasher n) (records (record_of c.args.slice_digest.now.frames.items) c.args.slices.now c.slice-item.result m goes.whole) all)

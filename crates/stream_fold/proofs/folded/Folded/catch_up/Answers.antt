@@ -1,5 +1,5 @@
 use Rattle.std.proofs.Common.{◌≡◌, ◌<◌, ◌≤◌, length, ap, arith}
-use Rattle.stream_fold.specs.Kept.{FoldedValue}
+use Rattle.stream_fold.specs.StoredStates.{FoldedValue}
 use Rattle.stream_fold.proofs.Anew.{caught_up, catches_more, not_both}
 use Rattle.stream_fold.proofs.folded.Folded.catch_up.Goals as goal
 

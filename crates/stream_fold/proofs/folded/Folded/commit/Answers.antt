@@ -1,7 +1,7 @@
 use Rattle.std.proofs.Common.{◌≡◌, ℕ, ◌+◌, length, ap, ◌∙◌, arith}
 use Rattle.std.specs.Prelude.{unwrap_or}
 use Rattle.stream_fold.proofs.Committed.{stays_of, can_shift_as, folded_by}
-use Rattle.stream_fold.proofs.Reaching.{reached_after}
+use Rattle.stream_fold.proofs.Reaching.{resume_point_after}
 use Rattle.stream_fold.proofs.folded.Folded.commit.Goals as goal
 
 pub store_anew-requires-clause-apart : goal.store_anew-requires-clause-apart
@@ -25,5 +25,5 @@ invariant_of-self c =
           c.keep_end.ensures.some c.make.new.units.items c.store_anew.new.stored.states c.thin.new.stored.states c.thin-2.new.stored.states
           c.unwrap_or.result c.length_change.result c.make.ensures c.store_anew.ensures stays c.length_change.ensures c.thin.ensures
           c.thin-2.ensures,
-      rw (c.make.ensures) (reached_after c.args.prepared.change c.self.inside.units.items prepared.inside c.args.prepared.reached prepared.reached),
+      rw (c.make.ensures) (resume_point_after c.args.prepared.change c.self.inside.units.items prepared.inside c.args.prepared.resume_point prepared.resume_point),
     )

@@ -1,5 +1,5 @@
 use Rattle.std.proofs.Common.{ap, arith, length, rules}
-use Rattle.stream_fold.proofs.Stretch.{is_anew}
+use Rattle.stream_fold.proofs.Range.{is_anew}
 use Rattle.stream_fold.proofs.folded.Folded.prepare.Goals as goal
 
 pub returns-clause-ready : goal.returns-clause-ready
@@ -8,9 +8,9 @@ returns-clause-ready c =
       inside = search rules;
       short = search rules;
       made = search rules;
-      reached = search rules;
-      units_room = omega (arith, c.in_ok-reserve.ensures.ok, c.len.ensures, ap length c.units.ensures);
-      states_room = search rules;
+      resume_point = search rules;
+      units_spare = omega (arith, c.in_ok-reserve.ensures.ok, c.len.ensures, ap length c.units.ensures);
+      states_spare = search rules;
     }
 
 pub returns-clause-anew : goal.returns-clause-anew

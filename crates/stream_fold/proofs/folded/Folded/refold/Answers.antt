@@ -28,8 +28,8 @@ share-requires c =
     (are_kept stream c.args.outcomes.now outcomes (at_of c.args.change.now)
     (at_inside c.args.change.now stream inside) c.in_ok-fold.fold c.go_over.new.self start.before start.refolded before)
 
-pub reached_at-requires : goal.reached_at-requires
-reached_at-requires c =
+pub resume_point_at-requires : goal.resume_point_at-requires
+resume_point_at-requires c =
     let stream = c.self.inside.units.items in
     let start = rw (← c.self.view_is, c.at-at.ensures) at c.in_ok-fold.ensures in
     let before = rw (c.deref.ensures.value, c.at-at.ensures) at c.in_ok-go_over.ensures in

@@ -1,8 +1,8 @@
 use Rattle.std.proofs.Common.{length, subst, Option, arith}
-use Rattle.stream_fold.specs.declared.reached.Reached.{Reached}
-use Rattle.stream_fold.specs.Kept.{IsReached}
+use Rattle.stream_fold.specs.declared.refold.ResumePoint.{ResumePoint}
+use Rattle.stream_fold.specs.StoredStates.{IsResumePoint}
 use Rattle.stream_fold.specs.Refolding.{Begins, IsStart}
-use Rattle.stream_fold.proofs.Anew.{before_near, if_ok, starts_before, starts_where_reached}
+use Rattle.stream_fold.proofs.Anew.{before_near, if_ok, starts_before, starts_where_resume_point}
 use Rattle.stream_fold.proofs.folded.Folded.start_before.Goals as goal
 
 pub new-requires-clause-below : goal.new-requires-clause-below
@@ -22,15 +22,15 @@ pub returns-in-Some : goal.returns-in-Some
 returns-in-Some c =
     let within = rw (← c.self.view_is) at c.requires in
     let found = rw c.in-Some.is at c.if_between.ensures in
-    let reached : Reached = c.in-Some.reached.now in
+    let resume_point : ResumePoint = c.in-Some.resume_point.now in
     let is =
-    subst (λ (kept : Option Reached). IsReached c.self.inside.units.items (length c.self.inside.units.items) kept) found.0
+    subst (λ (kept : Option ResumePoint). IsResumePoint c.self.inside.units.items (length c.self.inside.units.items) kept) found.0
     c.self.invariant.1 in
     rw (← c.self.view_is)
-    (if_ok (Begins reached.place c.before-before.result.place reached.state) (IsStart c.args.at c.self.inside.units.items c.self.inside.stored.states)
+    (if_ok (Begins resume_point.place c.before-before.result.place resume_point.state) (IsStart c.args.at c.self.inside.units.items c.self.inside.stored.states)
     c.new.result
-    (λ fold begun. starts_where_reached c.self.inside.units.items c.self.inside.stored.states c.self.inside.end
-    c.self.invariant.0 c.args.at c.before-before.result.place reached.place c.before-before.result.state.now reached.state fold within
+    (λ fold begun. starts_where_resume_point c.self.inside.units.items c.self.inside.stored.states c.self.inside.end
+    c.self.invariant.0 c.args.at c.before-before.result.place resume_point.place c.before-before.result.state.now resume_point.state fold within
     c.before-before.ensures found.1 found.2 is.1 begun)
     c.new.ensures)
 

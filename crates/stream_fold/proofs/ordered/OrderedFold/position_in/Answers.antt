@@ -1,7 +1,7 @@
 use Rattle.std.proofs.Common.{arith}
 use Rattle.request_core.specs.Fold.{outcomes_of}
 use Rattle.stream_fold.proofs.Placed.{position_read}
-use Rattle.stream_fold.proofs.Stretches.{length-units, length-outcomes}
+use Rattle.stream_fold.proofs.Ranges.{length-units, length-outcomes}
 use Rattle.stream_fold.proofs.ordered.OrderedFold.position_in.Goals as goal
 
 pub position_in-requires-clause-within : goal.position_in-requires-clause-within
@@ -9,10 +9,10 @@ position_in-requires-clause-within c =
     let within = rw (← c.self.view_is) at c.requires.within in
     omega (arith, within, length-units c.self.inside.folded.stream c.self.inside.periods.periods c.self.invariant)
 
-pub position_in-requires-clause-room : goal.position_in-requires-clause-room
-position_in-requires-clause-room c =
-    let room = rw (← c.self.view_is) at c.requires.room in
-    omega (arith, room, length-units c.self.inside.folded.stream c.self.inside.periods.periods c.self.invariant)
+pub position_in-requires-clause-spare : goal.position_in-requires-clause-spare
+position_in-requires-clause-spare c =
+    let spare = rw (← c.self.view_is) at c.requires.spare in
+    omega (arith, spare, length-units c.self.inside.folded.stream c.self.inside.periods.periods c.self.invariant)
 
 pub returns-clause-position : goal.returns-clause-position
 returns-clause-position c =

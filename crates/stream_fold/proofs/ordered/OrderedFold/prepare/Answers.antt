@@ -2,7 +2,7 @@ use Rattle.std.proofs.Common.{map, ap, ◌∙◌, arith}
 use Rattle.request_core.specs.Agreement.{Stream}
 use Rattle.output_order.specs.Shown.{shown_of}
 use Rattle.stream_fold.specs.Prepared.{end_in}
-use Rattle.stream_fold.proofs.Stretches.{ends_within, spliced_fits, ordered_after}
+use Rattle.stream_fold.proofs.Ranges.{ends_within, spliced_fits, ordered_after}
 use Rattle.stream_fold.proofs.ordered.OrderedFold.prepare.Goals as goal
 
 pub prepare_splice-requires-clause-within : goal.prepare_splice-requires-clause-within
@@ -31,7 +31,7 @@ returns-clause-ready c =
     rw c.in_ok-reserve.ensures.ok (record {
       refolded = c.in_ok-refolded.ensures.ready;
       can = c.in_ok-splice.ensures.splice.can;
-      room = omega (arith, c.len.ensures);
+      spare = omega (arith, c.len.ensures);
       does =
           rw kept
           (ordered_after c.self.inside.folded.stream c.self.inside.periods.periods c.self.invariant c.in_ok-refolded.refolded

@@ -1,7 +1,7 @@
 use Rattle.std.proofs.Common.{◌≡◌, ◌∙◌, [], subst, sym}
 use Rattle.stream_edits.specs.Changes.{stream_after}
-use Rattle.stream_session.specs.Kept.{CanStand}
-use Rattle.stream_session.proofs.Begun.{CanStand-snapshot, IsBegun-begun, IsKept-begun, all_brought}
+use Rattle.stream_session.specs.Stored.{CanStand}
+use Rattle.stream_session.proofs.Begun.{CanStand-snapshot, IsBegun-begun, IsSound-begun, all_brought}
 use Rattle.stream_session.proofs.session.Session.begun.Goals as goal
 
 pub change_stream-requires-clause-after : goal.change_stream-requires-clause-after
@@ -21,7 +21,7 @@ invariant_of-result g c =
     let stream = rw c.in_ok-ordered.ensures at c.in_ok-change_stream.ensures.stream in
     let moves = rw (c.in_ok-ordered.ensures, c.in_ok-store.ensures) at c.in_ok-change_stream.ensures.moves in
     rw (c.new-3.ensures.items, c.ids_given.ensures, stream ∙ brings)
-    (IsKept-begun c.args.config.cache origin units.result costs.steps costs.lost_pictures costs.changed c.change_stream.new.store
+    (IsSound-begun c.args.config.cache origin units.result costs.steps costs.lost_pictures costs.changed c.change_stream.new.store
     c.in_ok-shares.ensures.is brings moves)
 
 pub returns-clause-ok : goal.returns-clause-ok

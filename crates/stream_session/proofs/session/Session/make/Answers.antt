@@ -1,5 +1,5 @@
 use Rattle.stream_session.proofs.Accepted.{CanStand-kept, CanStand-after}
-use Rattle.stream_session.proofs.Stored.{IsKept-after, Moves-after}
+use Rattle.stream_session.proofs.Stored.{IsSound-after, Moves-after}
 use Rattle.stream_session.proofs.session.Session.make.Goals as goal
 
 pub change_stream-requires-clause-inside : goal.change_stream-requires-clause-inside
@@ -29,7 +29,7 @@ invariant_of-self-2 g c =
     let s = c.self.inside in
     let come = rw (← c.self.view_is) at c.requires.come in
     rw (c.push_reserved.ensures.items, c.reserve.ensures.items, c.in_ok-costs.ensures.stream)
-    (IsKept-after (record { origin = s.origin; entries = s.journal.items }) (record { ids_given = s.ids_given; stream = s.ordered.folded.stream }) s.store
+    (IsSound-after (record { origin = s.origin; entries = s.journal.items }) (record { ids_given = s.ids_given; stream = s.ordered.folded.stream }) s.store
     c.args.edits c.args.change c.args.ids_given c.in_ok-costs.costs.steps c.in_ok-costs.costs.lost_pictures c.in_ok-costs.costs.changed
     c.change_stream.new.store c.self.invariant come c.in_ok-costs.ensures.moves)
 

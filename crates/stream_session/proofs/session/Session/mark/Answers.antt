@@ -1,13 +1,13 @@
 use Rattle.stream_edits.specs.Edits.{Register}
 use Rattle.stream_session.proofs.Altered.{mark_refused, mark_stays, mark_told, none_told}
-use Rattle.stream_session.proofs.Pictured.{IsKept-stays, IsStoreOf-kept}
+use Rattle.stream_session.proofs.Pictured.{IsSound-stays, IsStoreOf-kept}
 use Rattle.stream_session.proofs.session.Session.mark.Goals as goal
 
 pub invariant_of-self : goal.invariant_of-self
 invariant_of-self g c =
     let s = c.self.inside in
     let register : Register = record { ids_given = s.ids_given; stream = s.ordered.folded.stream } in
-    IsKept-stays (record { origin = s.origin; entries = s.journal.items }) register s.store c.mark.new.self c.self.invariant
+    IsSound-stays (record { origin = s.origin; entries = s.journal.items }) register s.store c.mark.new.self c.self.invariant
     (mark_stays (record { origin = s.origin; entries = s.journal.items }) register s.store (IsStoreOf-kept (record { origin = s.origin; entries = s.journal.items }) register s.store c.self.invariant) c.mark.result
     c.mark.new.self c.mark.ensures.ok c.mark.ensures.err)
 

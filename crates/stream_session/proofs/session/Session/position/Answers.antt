@@ -5,8 +5,8 @@ use Rattle.stream_session.proofs.session.Session.position.Goals as goal
 pub position_in-requires-clause-within : goal.position_in-requires-clause-within
 position_in-requires-clause-within g c = rw (← c.self.view_is) at c.in-Some.ensures.inside
 
-pub position_in-requires-clause-room : goal.position_in-requires-clause-room
-position_in-requires-clause-room g c = omega (arith, c.new-comparisons.ensures, c.self.invariant.bounded)
+pub position_in-requires-clause-spare : goal.position_in-requires-clause-spare
+position_in-requires-clause-spare g c = omega (arith, c.new-comparisons.ensures, c.self.invariant.bounded)
 
 pub returns-in-Some : goal.returns-in-Some
 returns-in-Some g c =

@@ -8,9 +8,9 @@ loop-place-preserved g c end rest =
     let outcomes = c.args.outcomes.now in
     let here : place < length outcomes = c.loop-place-test.true in
     let there : place < length c.args.positions.now = omega (arith, c.requires.positions, here) in
-    let known : place < length c.args.told.now = omega (arith, c.requires.told, here) in
+    let known : place < length c.args.doubts.now = omega (arith, c.requires.doubts, here) in
     let is = c.new-id.ensures in
     let id_is : c.new-id.result ≡ place + 1 = omega (arith, is) in
     let said = rw c.in_ok-line.ensures at c.in_ok-print_line.ensures.ok in
-    c.loop-place.invariant end (said-next g.J.Encoder.says c.args.form.mode outcomes c.args.positions.now c.args.told.now place
-    c.new-id.result _ _ _ _ _ end here there known id_is c.index-outcomes-place.is refl c.index-told-place.is said rest)
+    c.loop-place.invariant end (said-next g.J.Encoder.says c.args.form.mode outcomes c.args.positions.now c.args.doubts.now place
+    c.new-id.result _ _ _ _ _ end here there known id_is c.index-outcomes-place.is refl c.index-doubts-place.is said rest)

@@ -31,17 +31,17 @@ invariant_of-self-2 g c =
       c.deref.ensures.value,
     )
     (swept_kept g.F.Fingerprint.digest c.self.inside.slots.items c.self.inside.numbers c.self.inside.index c.self.invariant
-    c.room.result c.room.ensures c.args.roots.now)
+    c.bound.result c.bound.ensures c.args.roots.now)
 
 pub returns-clause-ok : goal.returns-clause-ok
 returns-clause-ok g c =
     rw (c.keep_marked.ensures, c.deref-5.ensures.value, c.in_ok-marks.ensures, c.deref.ensures.value, ← c.self.view_is)
     (swept g.F.Fingerprint.digest c.self.inside.slots.items c.self.inside.numbers c.self.inside.index c.self.invariant
-    c.room.result c.room.ensures c.args.roots.now)
+    c.bound.result c.bound.ensures c.args.roots.now)
 
 pub returns-clause-map : goal.returns-clause-map
 returns-clause-map g c =
     rw (c.keep_marked.ensures, c.deref-5.ensures.value, c.in_ok-marks.ensures, c.deref.ensures.value)
     (kept_map g.F.Fingerprint.digest _ _ _
     (swept_kept g.F.Fingerprint.digest c.self.inside.slots.items c.self.inside.numbers c.self.inside.index c.self.invariant
-    c.room.result c.room.ensures c.args.roots.now))
+    c.bound.result c.bound.ensures c.args.roots.now))

@@ -1,7 +1,7 @@
 use Rattle.std.proofs.Common.{◌≡◌, ◌≤◌, ◌<◌, List, ℕ, Some, length, ap, refl, sym, subst, arith}
 use Rattle.std.specs.Prelude.{slice_get}
 use Rattle.std.proofs.lemmas.Option.{get_or_from_slice_get, slice_get_read}
-use Rattle.edit_history.specs.declared.changes.Change.TheVariants.{Deleted}
+use Rattle.edit_history.specs.declared.changes.UnitChange.TheVariants.{Deleted}
 use Rattle.picture_keys.specs.Units.{AreDifferent}
 use Rattle.stream_edits.specs.Streams.{place_among}
 use Rattle.edit_history.proofs.Followed.{follows-deleted}

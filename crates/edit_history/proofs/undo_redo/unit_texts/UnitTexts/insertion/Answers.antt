@@ -1,5 +1,5 @@
 use Rattle.std.proofs.Common.{◌≡◌, ◌+◌, List, [], ◌∷◌, ◌∙◌, ℕ, Some, length, ap, refl, subst, arith}
-use Rattle.edit_history.specs.declared.changes.Change.TheVariants.{Inserted}
+use Rattle.edit_history.specs.declared.changes.UnitChange.TheVariants.{Inserted}
 use Rattle.picture_keys.specs.Units.{AreDifferent}
 use Rattle.stream_edits.specs.Streams.{start_among}
 use Rattle.edit_history.proofs.Followed.{follows-inserted}

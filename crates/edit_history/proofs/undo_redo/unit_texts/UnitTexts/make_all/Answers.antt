@@ -1,6 +1,6 @@
 use Rattle.std.proofs.Common.{List, Option, sym, subst}
 use Rattle.std.specs.Prelude.{IfSome}
-use Rattle.edit_history.specs.declared.changes.Change.{Change}
+use Rattle.edit_history.specs.declared.changes.UnitChange.{UnitChange}
 use Rattle.edit_history.specs.declared.undo_redo.prepared.PreparedEdit.{PreparedEdit}
 use Rattle.edit_history.specs.Following.{Follows}
 use Rattle.edit_history.proofs.UndoRedoLed.{IsPartlyLed, IsTakenIn, partly-none, partly-more, partly-refused, partly-whole}
@@ -9,7 +9,7 @@ use Rattle.edit_history.proofs.undo_redo.unit_texts.UnitTexts.make_all.Goals as 
 pub loop-edit-init : goal.loop-edit-init
 loop-edit-init c = record {
   so_far = λ old ids new kept makes.
-      subst (λ (changes : List Change). IsPartlyLed c.args.self.now.texts.items changes c.args.edits.now 0 new c.args.self.now)
+      subst (λ (changes : List UnitChange). IsPartlyLed c.args.self.now.texts.items changes c.args.edits.now 0 new c.args.self.now)
       (sym c.in_ok-changes.ensures.items) (partly-none old c.args.edits.now ids new c.args.self.now kept makes);
 }
 

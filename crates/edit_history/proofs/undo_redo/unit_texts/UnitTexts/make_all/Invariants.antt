@@ -1,7 +1,7 @@
 use Rattle.std.proofs.Common.{ℕ, List}
 use Rattle.stream_edits.specs.Edits.{Register}
 use Rattle.stream_edits.specs.Groups.{MakesAll}
-use Rattle.edit_history.specs.Kept.{IsKept}
+use Rattle.edit_history.specs.KeptTexts.{IsKept}
 use Rattle.edit_history.proofs.UndoRedoLed.{IsPartlyLed}
 use Rattle.edit_history.proofs.undo_redo.unit_texts.UnitTexts.make_all.Given as goal
 

@@ -63,6 +63,6 @@ returns g c = record {
     bound = search rules;
   });
   placed = rw (← c.self.view_is) (sym c.in-Some-target_of.ensures);
-  work = search rules;
+  decoded = search rules;
   left = rw (← c.self.view_is, c.complete.ensures, c.turn-2.ensures, c.release-2.ensures.released, c.turn.ensures, c.remove.ensures.items, c.done-ready.ensures, c.written-capture.ensures) refl;
 }

@@ -1,5 +1,0 @@
-use Rattle.edit_script.proofs.OneReading.{same-reading}
-use Rattle.edit_script.proofs.laws.one_reading.Goals as goal
-
-pub returns : goal.returns
-returns c = same-reading

@@ -1,5 +1,0 @@
-use Rattle.picture_store.proofs.Waiting.{never_stuck}
-use Rattle.picture_store.proofs.laws.something_is_due.Goals as goal
-
-pub returns : goal.returns
-returns g c = never_stuck

@@ -1,5 +1,0 @@
-use Rattle.request_core.proofs.Agreement.{go-on-alike}
-use Rattle.request_core.proofs.laws.agreement.Goals as goal
-
-pub returns : goal.returns
-returns c = go-on-alike

@@ -1,6 +1,0 @@
-use Rattle.std.proofs.Common.{take}
-use Rattle.serve_calls.specs.Wanting.{TellsOf}
-use Rattle.serve_calls.proofs.wanting.told_now.Given as goal
-
-abbrev pub invariant-loop-unit : goal.invariant-loop-unit
-invariant-loop-unit l = TellsOf l.session (take l.unit-index l.units) l.told

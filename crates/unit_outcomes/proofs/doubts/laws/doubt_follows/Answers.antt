@@ -1,5 +1,0 @@
-use Rattle.unit_outcomes.proofs.Doubted.{break_before}
-use Rattle.unit_outcomes.proofs.doubts.laws.doubt_follows.Goals as goal
-
-pub returns : goal.returns
-returns c = break_before

@@ -1,0 +1,8 @@
+use Rattle.unit_outcomes.specs.SeenUnits.{seen_units}
+use Rattle.unit_outcomes.specs.InDoubt.{IdsDiffer}
+use Rattle.unit_outcomes.specs.Walks.{IsBefore}
+use Rattle.unit_outcomes.proofs.doubts.range.walk_up.Given as goal
+
+abbrev pub invariant-loop-at : goal.invariant-loop-at
+invariant-loop-at l = IdsDiffer (seen_units l.ids l.references l.outcomes)
+    → IsBefore (seen_units l.ids l.references l.outcomes) l.at l.walk

@@ -212,8 +212,8 @@ public:
     /* The bytes of a slice of a job, after a start code of three bytes. */
     Bytes bytes(std::uint64_t job, std::size_t slice)
     {
-        return filled([&](std::uint8_t *text, std::size_t room, std::size_t *needed) {
-            return cupdaisy_job_bytes(&handle, job, slice, text, room, needed);
+        return filled([&](std::uint8_t *text, std::size_t capacity, std::size_t *needed) {
+            return cupdaisy_job_bytes(&handle, job, slice, text, capacity, needed);
         });
     }
 
@@ -230,16 +230,16 @@ public:
     /* The bytes of all slices of a job, each after a start code of three bytes; or those of its only slice, without it. */
     Bytes frame_bytes(std::uint64_t job, bool start_codes = true)
     {
-        return filled([&](std::uint8_t *text, std::size_t room, std::size_t *needed) {
-            return cupdaisy_job_frame_bytes(&handle, job, start_codes, text, room, needed);
+        return filled([&](std::uint8_t *text, std::size_t capacity, std::size_t *needed) {
+            return cupdaisy_job_frame_bytes(&handle, job, start_codes, text, capacity, needed);
         });
     }
 
     /* The text of an edit of the journal. */
     Bytes text(std::size_t entry, std::size_t index)
     {
-        return filled([&](std::uint8_t *text, std::size_t room, std::size_t *needed) {
-            return cupdaisy_journal_text(&handle, entry, index, text, room, needed);
+        return filled([&](std::uint8_t *text, std::size_t capacity, std::size_t *needed) {
+            return cupdaisy_journal_text(&handle, entry, index, text, capacity, needed);
         });
     }
 

@@ -12,18 +12,18 @@ static uint8_t *whole_file(const char *path, size_t *length)
     FILE *file = fopen(path, "rb");
     if (file == NULL)
         return NULL;
-    size_t room = 1u << 16;
+    size_t capacity = 1u << 16;
     size_t count = 0;
-    uint8_t *text = (uint8_t *)malloc(room);
+    uint8_t *text = (uint8_t *)malloc(capacity);
     while (text != NULL) {
-        count += fread(text + count, 1, room - count, file);
-        if (count < room)
+        count += fread(text + count, 1, capacity - count, file);
+        if (count < capacity)
             break;
-        uint8_t *more = room <= SIZE_MAX / 2 ? (uint8_t *)realloc(text, 2 * room) : NULL;
+        uint8_t *more = capacity <= SIZE_MAX / 2 ? (uint8_t *)realloc(text, 2 * capacity) : NULL;
         if (more == NULL)
             free(text);
         text = more;
-        room *= 2;
+        capacity *= 2;
     }
     if (ferror(file)) {
         free(text);

@@ -21,11 +21,11 @@ static uint32_t mend(const uint8_t *text, size_t length)
 {
     static cupdaisy_left_out left_out[ROOM];
     size_t count = 0;
-    size_t room = length / 4 * 9 + 9;
-    uint8_t *bytes = (uint8_t *)malloc(room);
+    size_t capacity = length / 4 * 9 + 9;
+    uint8_t *bytes = (uint8_t *)malloc(capacity);
     if (bytes == NULL)
         return CUPDAISY_MEMORY;
-    uint32_t status = cupdaisy_mend(text, length, bytes, room, &length, left_out, ROOM, &count);
+    uint32_t status = cupdaisy_mend(text, length, bytes, capacity, &length, left_out, ROOM, &count);
     if (status == CUPDAISY_DONE) {
         for (size_t i = 0; i < count && i < ROOM; i++)
             tell(&left_out[i]);

@@ -46,7 +46,7 @@ private:
     void take_back(cupdaisy::Surface number);
     bool drop(cupdaisy::Surface number);
     bool make_room(const std::vector<cupdaisy::Surface> &kept);
-    bool room(const std::vector<cupdaisy::Surface> &kept, cupdaisy::Surface &number);
+    bool find_unused(const std::vector<cupdaisy::Surface> &kept, cupdaisy::Surface &number);
     std::uint64_t content_of(std::uint64_t job, const std::vector<cupdaisy::Surface> &references);
     void decode(const cupdaisy_job &job);
     bool make_ready(std::uint32_t id);
@@ -118,7 +118,7 @@ bool Host::make_room(const std::vector<cupdaisy::Surface> &kept)
 }
 
 /* A surface to decode into, but for those that are kept; whether there is one. */
-bool Host::room(const std::vector<cupdaisy::Surface> &kept, cupdaisy::Surface &number)
+bool Host::find_unused(const std::vector<cupdaisy::Surface> &kept, cupdaisy::Surface &number)
 {
     do {
         for (number = 0; number < surfaces.size(); number++)
@@ -152,7 +152,7 @@ void Host::decode(const cupdaisy_job &job)
     cupdaisy::Surface number = 0;
     const std::uint64_t content = content_of(job.number, kept);
     kept.push_back(cursor);
-    if (!room(kept, number))
+    if (!find_unused(kept, number))
         throw std::runtime_error("a job refers to more pictures than there are surfaces");
     Surface &surface = surfaces[number];
     surface.content = content;

@@ -37,7 +37,7 @@ struct slot {
     uint32_t index;
     int request;
     uint8_t *bytes;
-    size_t room;
+    size_t capacity;
 };
 
 struct driver {
@@ -267,14 +267,14 @@ static bool map_output(const struct driver *driver, struct slot *slot, uint8_t *
     buffer.index = slot->index;
     tell(driver, "VIDIOC_QUERYBUF OUTPUT index %u\nmmap\n", (unsigned)slot->index);
     slot->bytes = memory;
-    slot->room = MOST_BYTES;
+    slot->capacity = MOST_BYTES;
     if (driver->video < 0)
         return true;
     if (!is_made(driver, driver->video, VIDIOC_QUERYBUF, &buffer, "VIDIOC_QUERYBUF"))
         return false;
-    slot->room = driver->output.planes != 0 ? planes[0].length : buffer.length;
+    slot->capacity = driver->output.planes != 0 ? planes[0].length : buffer.length;
     off_t offset = (off_t)(driver->output.planes != 0 ? planes[0].m.mem_offset : buffer.m.offset);
-    void *mapped = mmap(NULL, slot->room, PROT_READ | PROT_WRITE, MAP_SHARED, driver->video, offset);
+    void *mapped = mmap(NULL, slot->capacity, PROT_READ | PROT_WRITE, MAP_SHARED, driver->video, offset);
     if (mapped == MAP_FAILED)
         return failed("mmap");
     slot->bytes = (uint8_t *)mapped;
@@ -340,7 +340,7 @@ static bool take_down(struct driver *driver)
         return false;
     tell(driver, "munmap\n");
     for (uint32_t i = 0; driver->video >= 0 && i < driver->output.buffers; i++)
-        if (munmap(driver->slots[i].bytes, driver->slots[i].room) != 0)
+        if (munmap(driver->slots[i].bytes, driver->slots[i].capacity) != 0)
             return failed("munmap");
     return ask_buffers(driver, &driver->output, 0, &able) && ask_buffers(driver, &driver->capture, 0, &able);
 }

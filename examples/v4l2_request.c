@@ -99,7 +99,7 @@ static void decode_slices(struct host *host, uint64_t job, const cupdaisy_job_in
         size_t bytes = 0;
         const struct slot *slot = slot_of(host);
         expect(cupdaisy_job_request(&host->session, job, slice, &request), "request");
-        expect(cupdaisy_job_bytes(&host->session, job, slice, slot->bytes, slot->room, &bytes), "bytes");
+        expect(cupdaisy_job_bytes(&host->session, job, slice, slot->bytes, slot->capacity, &bytes), "bytes");
         rewrite(host, job, input->references, &request.decode_params);
         set_slice(host, slot, job, slice, &request);
         if (!host->driver.has_start_codes)
@@ -116,7 +116,7 @@ static void decode_frame(struct host *host, uint64_t job, const cupdaisy_job_inp
     size_t bytes = 0;
     const struct slot *slot = slot_of(host);
     expect(cupdaisy_job_frame(&host->session, job, &frame), "frame");
-    expect(cupdaisy_job_frame_bytes(&host->session, job, host->driver.has_start_codes, slot->bytes, slot->room, &bytes), "bytes");
+    expect(cupdaisy_job_frame_bytes(&host->session, job, host->driver.has_start_codes, slot->bytes, slot->capacity, &bytes), "bytes");
     rewrite(host, job, input->references, &frame.decode_params);
     set_frame(host, slot, &frame);
     if (!queue_request(&host->driver, slot, bytes, host->clock, false))

@@ -53,7 +53,7 @@ extern "C" {
 #define CUPDAISY_NO_SUCH_UNIT 16  /* no unit has the id */
 #define CUPDAISY_NO_SESSION 100   /* the handle has no session */
 #define CUPDAISY_IS_OPEN 101      /* the handle has a session already */
-#define CUPDAISY_CACHE_RANGE 102  /* the room of the cache is out of its range */
+#define CUPDAISY_CACHE_RANGE 102  /* the capacity of the cache is out of its range */
 #define CUPDAISY_TOO_SMALL 103    /* what the caller gives has no room for what is asked */
 #define CUPDAISY_NO_SUCH_PLACE 104 /* no unit stands at the place, no edit of the journal or reference has the index */
 #define CUPDAISY_NO_SUCH_JOB 105  /* no job of the number is out */
@@ -302,7 +302,7 @@ uint32_t cupdaisy_load(cupdaisy_session *session, const uint8_t *text, size_t te
  * refused, but for how many access units it has (17), or where it is empty: no NAL unit stays. It needs no session.
  * `needed` is how many bytes stay, and `count` how often some are left out: of these as many as `left_out` has room for are written, the
  * first ones, and the rest of it stays as it was. The bytes have to have no more room than the text and a delimiter of five bytes for each
- * of its slices; so a room of 9 bytes for each 4 of the text is enough.
+ * of its slices; so a buffer of 9 bytes for each 4 of the text is enough.
  * TOO_SMALL where `bytes` has less room: `bytes` stays as it was, and all else is written. Takes memory, for what stays too. MEMORY.
  */
 uint32_t cupdaisy_mend(const uint8_t *text, size_t text_length, uint8_t *bytes, size_t bytes_length, size_t *needed,
@@ -328,7 +328,7 @@ uint32_t cupdaisy_outcome_of(cupdaisy_session *session, uint32_t id, cupdaisy_ou
 
 /*
  * Which units follow a damage, and which of them are in doubt: of those from the place `from` on, as many as `doubts` has room for,
- * or up to the last one. `count` of them are written, none where `from` is past the end, and the rest of the room stays as it was.
+ * or up to the last one. `count` of them are written, none where `from` is past the end, and the rest of `doubts` stays as it was.
  * It takes a time that grows with the units from the last valid IDR picture before `from` on. Takes memory. MEMORY.
  */
 uint32_t cupdaisy_doubts(cupdaisy_session *session, size_t from, cupdaisy_doubt *doubts, size_t doubts_length, size_t *count);

@@ -83,8 +83,8 @@ class Editor {
     if (!stream) return;
     const ids = (positions) => positions.filter((at) => at >= 0 && at < stream.pictures).map((at) => stream.ids[stream.atPosition[at]]);
     const from = stream.positionOf(cursor);
-    const ahead = Array.from({ length: pictures.room }, (_, index) => from + 1 + index);
-    const near = this.player.isPlaying ? ahead.slice(0, pictures.room / 2) : [1, -1, 2, -2, 3, -3].map((by) => from + by);
+    const ahead = Array.from({ length: pictures.capacity }, (_, index) => from + 1 + index);
+    const near = this.player.isPlaying ? ahead.slice(0, pictures.capacity / 2) : [1, -1, 2, -2, 3, -3].map((by) => from + by);
     const large = [stream.ids[cursor], ...ids(near)];
     const far = ({ place }) => Math.abs(place - cursor);
     const shown = this.timeline.thumbnails().sort((one, other) => far(one) - far(other)).map(({ place }) => stream.ids[place]);

@@ -97,7 +97,7 @@ export class Pictures {
   }
 
   /** For how many whole pictures there is room ahead. */
-  get room() { return Math.max(8, Math.min(64, Math.floor(160 * MEGABYTE / this.size))); }
+  get capacity() { return Math.max(8, Math.min(64, Math.floor(160 * MEGABYTE / this.size))); }
 
   /** A notification of the server's. */
   heard({ method, params }) {

@@ -27,11 +27,11 @@ export class View {
     this.clamp(length);
   }
 
-  /** Moves as little as brings a place onto the page, with some room beside it. */
+  /** Moves as little as brings a place onto the page, with a margin beside it. */
   bring(place, length) {
-    const room = Math.min(this.count / 8, 12);
-    if (place < this.first + room) this.first = place - room;
-    if (place + 1 > this.first + this.count - room) this.first = place + 1 + room - this.count;
+    const margin = Math.min(this.count / 8, 12);
+    if (place < this.first + margin) this.first = place - margin;
+    if (place + 1 > this.first + this.count - margin) this.first = place + 1 + margin - this.count;
     this.clamp(length);
   }
 

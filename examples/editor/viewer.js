@@ -21,8 +21,8 @@ export class Viewer {
     const { bitmap, isStale, isFailed, name } = pictures.of(stream.ids[cursor], true);
     this.shown = bitmap && !isStale ? stream.ids[cursor] : null;
     const fault = stream.faults.get(cursor);
-    const [room, aspect] = [14, pictures.aspect];
-    const wide = Math.min(width - 2 * room, (height - 2 * room) * aspect);
+    const [margin, aspect] = [14, pictures.aspect];
+    const wide = Math.min(width - 2 * margin, (height - 2 * margin) * aspect);
     const box = [(width - wide) / 2, (height - wide / aspect) / 2, wide, wide / aspect];
     draw.fillStyle = shade.soft;
     draw.fillRect(...box);

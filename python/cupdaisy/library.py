@@ -108,10 +108,10 @@ def filled(name: str, *operands: Any) -> tuple[int, bytes]:
     """The status of a call, and the bytes that it writes into a buffer, once this has as much room as is needed."""
     needed = c_size_t(256)
     while True:
-        room = (c_ubyte * max(needed.value, 1))()
-        status = called(name, *operands, room, len(room), byref(needed))
+        buffer = (c_ubyte * max(needed.value, 1))()
+        status = called(name, *operands, buffer, len(buffer), byref(needed))
         if status != TOO_SMALL:
-            return status, bytes(room[:needed.value])
+            return status, bytes(buffer[:needed.value])
 
 
 def status_name(status: int) -> str:

@@ -17,9 +17,9 @@ def mend(text: bytes) -> Mended:
     refused stays as it is. What stays isn't refused but for how many access units it has, or where it is empty."""
     needed, count = c_size_t(len(text) + 64), c_size_t(16)
     while True:
-        room, outs = (c_ubyte * max(needed.value, 1))(), (LeftOut * max(count.value, 1))()
-        status = called("mend", *text_of(text), room, len(room), byref(needed), outs, len(outs), byref(count))
+        buffer, outs = (c_ubyte * max(needed.value, 1))(), (LeftOut * max(count.value, 1))()
+        status = called("mend", *text_of(text), buffer, len(buffer), byref(needed), outs, len(outs), byref(count))
         if status not in (DONE, TOO_SMALL):
             raise Refused(status)
         if status == DONE and count.value <= len(outs):
-            return Mended(bytes(room[:needed.value]), list(outs[:count.value]))
+            return Mended(bytes(buffer[:needed.value]), list(outs[:count.value]))

@@ -167,9 +167,9 @@ class Session(Generic[T]):
 
     def doubts(self, place: int, count: int) -> list[Doubt]:
         """Which of so many units from a place on follow a damage, and which of them are in doubt; fewer where the stream ends before."""
-        told, room = c_size_t(), min(count, len(self))
-        doubts = (Doubt * max(room, 1))()
-        self.done("doubts", place, doubts, room, byref(told))
+        told, capacity = c_size_t(), min(count, len(self))
+        doubts = (Doubt * max(capacity, 1))()
+        self.done("doubts", place, doubts, capacity, byref(told))
         return list(doubts[:told.value])
 
     def key(self, unit: int) -> int:

@@ -75,7 +75,7 @@ numbered! {
     18 IdsSpent "all ids were given";
     20 EmptyGroup "a group has no edit";
     21 GroupTooLarge "a group has more than 1,024 edits";
-    102 CacheRange "the room of the cache isn't 1 to 4,096";
+    102 CacheRange "the capacity of the cache isn't 1 to 4,096";
     104 NoSuchPlace "nothing stands at the place";
     105 NoSuchJob "no job of the number is out";
     106 NoSuchSlice "the picture has no slice of the index";

@@ -130,7 +130,7 @@ macro_rules! filled {
         impl Raw {
             $(pub(crate) fn $name(&self $(, $operand: $kind)*) -> Result<Vec<u8>, Status> {
                 // SAFETY: as the module says; the buffer has the length that is given.
-                filled(|text, room, needed| unsafe { $call(self.at(), $($operand,)* text, room, needed) })
+                filled(|text, capacity, needed| unsafe { $call(self.at(), $($operand,)* text, capacity, needed) })
             })*
         }
     };
@@ -237,15 +237,15 @@ impl Drop for Raw {
 
 /// The name of a status; of a fault; the version. They need no session.
 pub(crate) fn status_name(status: u32) -> Option<String> {
-    text(|name, room, needed| unsafe { cupdaisy_status_name(status, name, room, needed) })
+    text(|name, capacity, needed| unsafe { cupdaisy_status_name(status, name, capacity, needed) })
 }
 
 pub(crate) fn fault_name(fault: u32) -> Option<String> {
-    text(|name, room, needed| unsafe { cupdaisy_fault_name(fault, name, room, needed) })
+    text(|name, capacity, needed| unsafe { cupdaisy_fault_name(fault, name, capacity, needed) })
 }
 
 pub(crate) fn why_name(why: u32) -> Option<String> {
-    text(|name, room, needed| unsafe { cupdaisy_why_name(why, name, room, needed) })
+    text(|name, capacity, needed| unsafe { cupdaisy_why_name(why, name, capacity, needed) })
 }
 
 /// What stays of a text that is mended, and what is left out of it.
@@ -277,7 +277,7 @@ pub(crate) fn mend(text: &[u8]) -> Result<(Vec<u8>, Vec<cupdaisy_left_out>), Sta
 }
 
 pub(crate) fn version() -> Option<String> {
-    text(|name, room, needed| unsafe { cupdaisy_version_text(name, room, needed) })
+    text(|name, capacity, needed| unsafe { cupdaisy_version_text(name, capacity, needed) })
 }
 
 fn text(call: impl Fn(*mut u8, usize, *mut usize) -> Status) -> Option<String> {

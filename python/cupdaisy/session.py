@@ -58,7 +58,7 @@ class Session(Generic[T]):
         if status != DONE:
             raise Refused(status)
 
-    def told(self, out: Out, name: str, *operands: Any) -> Out:
+    def written(self, out: Out, name: str, *operands: Any) -> Out:
         """What a call writes into its last parameter."""
         self.done(name, *operands, byref(out))
         return out
@@ -74,7 +74,7 @@ class Session(Generic[T]):
 
     def number(self, kind: type[Number], name: str, *operands: Any) -> int:
         """The number that a call writes into its last parameter."""
-        return self.told(kind(), name, *operands).value
+        return self.written(kind(), name, *operands).value
 
     def found_number(self, absent: Sequence[int], kind: type[Number], name: str, *operands: Any) -> Optional[int]:
         out = self.found(absent, kind(), name, *operands)
@@ -89,19 +89,19 @@ class Session(Generic[T]):
     # Edits. A refused one changes nothing and spends no id.
 
     def insert_first(self, text: bytes) -> Receipt:
-        return self.told(Receipt(), "insert_first", *text_of(text))
+        return self.written(Receipt(), "insert_first", *text_of(text))
 
     def insert_after(self, unit: int, text: bytes) -> Receipt:
-        return self.told(Receipt(), "insert_after", unit, *text_of(text))
+        return self.written(Receipt(), "insert_after", unit, *text_of(text))
 
     def insert_last(self, text: bytes) -> Receipt:
-        return self.told(Receipt(), "insert_last", *text_of(text))
+        return self.written(Receipt(), "insert_last", *text_of(text))
 
     def delete(self, unit: int) -> Receipt:
-        return self.told(Receipt(), "delete", unit)
+        return self.written(Receipt(), "delete", unit)
 
     def replace(self, unit: int, text: bytes) -> Receipt:
-        return self.told(Receipt(), "replace", unit, *text_of(text))
+        return self.written(Receipt(), "replace", unit, *text_of(text))
 
     def group(self, edits: Sequence[tuple[int, int, bytes]]) -> tuple[GroupReceipt, list[int]]:
         """Makes edits as one step, each a kind, an id and a text: the receipt and the ids."""
@@ -163,14 +163,14 @@ class Session(Generic[T]):
         return self.found_number((NO_SUCH_PLACE,), c_uint32, "unit_at", position)
 
     def outcome(self, unit: int) -> Outcome:
-        return self.told(Outcome(), "outcome_of", unit)
+        return self.written(Outcome(), "outcome_of", unit)
 
     def doubts(self, place: int, count: int) -> list[Doubt]:
         """Which of so many units from a place on follow a damage, and which of them are in doubt; fewer where the stream ends before."""
-        told, capacity = c_size_t(), min(count, len(self))
+        count_written, capacity = c_size_t(), min(count, len(self))
         doubts = (Doubt * max(capacity, 1))()
-        self.done("doubts", place, doubts, capacity, byref(told))
-        return list(doubts[:told.value])
+        self.done("doubts", place, doubts, capacity, byref(count_written))
+        return list(doubts[:count_written.value])
 
     def key(self, unit: int) -> int:
         """The number of a valid unit's key: of all that its picture is made of."""
@@ -189,7 +189,7 @@ class Session(Generic[T]):
         return self.number(c_uint32, "is_altered", unit) == 1
 
     def unit_request(self, unit: int, slice: int) -> Request:
-        return self.told(Request(), "unit_request", unit, slice)
+        return self.written(Request(), "unit_request", unit, slice)
 
     def unit_requests(self, unit: int) -> Iterator[Request]:
         """The requests of a valid unit, one a slice."""
@@ -205,7 +205,7 @@ class Session(Generic[T]):
 
     def unit_frame(self, unit: int) -> Frame:
         """The request of a valid unit's whole picture."""
-        return self.told(Frame(), "unit_frame", unit)
+        return self.written(Frame(), "unit_frame", unit)
 
     def unit_frame_bytes(self, unit: int, start_codes: bool = True) -> bytes:
         """The bytes of all its slices, each after its start code; or those of the only one, without it."""
@@ -218,7 +218,7 @@ class Session(Generic[T]):
                 for entry in entries]
 
     def journal_edit(self, entry: int, index: int) -> tuple[int, int, bytes]:
-        edit = self.told(JournalEdit(), "journal_edit_at", entry, index)
+        edit = self.written(JournalEdit(), "journal_edit_at", entry, index)
         return edit.kind, edit.id, self.bytes_told("journal_text", entry, index)
 
     # Pictures.
@@ -285,15 +285,15 @@ class Session(Generic[T]):
             yield self.surfaces.pop(surface.value)
 
     def job_input(self, job: int) -> JobInput:
-        return self.told(JobInput(), "job_input_of", job)
+        return self.written(JobInput(), "job_input_of", job)
 
     def job_references(self, job: int) -> list[Reference]:
         """The pictures that a job's requests may refer to."""
-        found = (self.told(JobReference(), "job_reference", job, index) for index in range(self.job_input(job).references))
+        found = (self.written(JobReference(), "job_reference", job, index) for index in range(self.job_input(job).references))
         return [Reference(each.timestamp, self.surfaces.get(each.surface)) for each in found]
 
     def job_request(self, job: int, slice: int) -> Request:
-        return self.told(Request(), "job_request", job, slice)
+        return self.written(Request(), "job_request", job, slice)
 
     def job_requests(self, job: int) -> Iterator[Request]:
         """The requests of a job, one a slice."""
@@ -307,7 +307,7 @@ class Session(Generic[T]):
 
     def job_frame(self, job: int) -> Frame:
         """The request of a job's whole picture."""
-        return self.told(Frame(), "job_frame", job)
+        return self.written(Frame(), "job_frame", job)
 
     def job_frame_bytes(self, job: int, start_codes: bool = True) -> bytes:
         """The bytes of all its slices, each after its start code; or those of the only one, without it."""

@@ -75,8 +75,8 @@ class Calls(unittest.TestCase):
         with cupdaisy.Session() as session:
             for text in (PICTURE, LATER[2], LATER[1], SETS):
                 session.insert_last(text)
-            told = [(doubt.follows, doubt.in_doubt) for doubt in session.doubts(0, 9)]
-            self.assertEqual(told, [(0, 0), (0, 0), (2, 1), (2, 0)])
+            doubts = [(doubt.follows, doubt.in_doubt) for doubt in session.doubts(0, 9)]
+            self.assertEqual(doubts, [(0, 0), (0, 0), (2, 1), (2, 0)])
             self.assertEqual([doubt.in_doubt for doubt in session.doubts(2, 1)], [1])
             self.assertEqual((session.doubts(4, 9), session.doubts(1, 0)), ([], []))
 
@@ -116,8 +116,8 @@ class Calls(unittest.TestCase):
         text = b"\xAB\0" + PICTURE + bytes.fromhex("0000016E4080") * 20 + later
         whole = b"\0" + PICTURE + bytes.fromhex("00000109F0") + later
         mended = cupdaisy.mend(text)
-        told = [(each.byte, each.bytes, cupdaisy.why_name(each.why), each.unit_type) for each in mended.left_out]
-        self.assertEqual(told, [(0, 1, "NotNalUnit", 0)] + [(25 + 6 * index, 6, "UnitType", 14) for index in range(20)])
+        left_out = [(each.byte, each.bytes, cupdaisy.why_name(each.why), each.unit_type) for each in mended.left_out]
+        self.assertEqual(left_out, [(0, 1, "NotNalUnit", 0)] + [(25 + 6 * index, 6, "UnitType", 14) for index in range(20)])
         self.assertEqual((mended.bytes, cupdaisy.mend(whole), cupdaisy.mend(b"")), (whole, (whole, []), (b"", [])))
         with cupdaisy.Session() as session:
             with self.assertRaisesRegex(cupdaisy.Refused, "^1 Split"):

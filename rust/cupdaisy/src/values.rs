@@ -28,7 +28,7 @@ impl fmt::Display for UnitId {
     }
 }
 
-/// What an accepted edit is told.
+/// What an accepted edit is record.
 #[derive(Clone, Debug, PartialEq, Eq)]
 pub struct Receipt {
     /// The unit that was inserted, deleted or replaced.
@@ -69,7 +69,7 @@ impl<'a> Edit<'a> {
     }
 }
 
-/// What an accepted group is told.
+/// What an accepted group is record.
 #[derive(Clone, Debug, PartialEq, Eq)]
 pub struct Group {
     /// The units that were inserted, deleted or replaced, in the order of the edits.
@@ -84,7 +84,7 @@ pub struct Group {
     pub changed: Range<usize>,
 }
 
-/// What a load is told.
+/// What a load is record.
 #[derive(Clone, Debug, PartialEq, Eq)]
 pub struct Loaded {
     /// The first of its units; the others have the next ids.
@@ -122,9 +122,9 @@ pub struct Doubt {
 }
 
 impl Doubt {
-    pub(crate) fn of(told: sys::cupdaisy_doubt) -> Self {
-        let follows = (told.follows != 0).then_some(UnitId(told.follows));
-        Doubt { follows, in_doubt: told.in_doubt == 1 }
+    pub(crate) fn of(record: sys::cupdaisy_doubt) -> Self {
+        let follows = (record.follows != 0).then_some(UnitId(record.follows));
+        Doubt { follows, in_doubt: record.in_doubt == 1 }
     }
 }
 
@@ -144,16 +144,16 @@ pub struct Plan {
 }
 
 impl Outcome {
-    pub(crate) fn of(told: sys::cupdaisy_outcome) -> Self {
-        match told.kind {
+    pub(crate) fn of(record: sys::cupdaisy_outcome) -> Self {
+        match record.kind {
             sys::CUPDAISY_PLAN => Outcome::Plan(Plan {
-                top: told.top,
-                bottom: told.bottom,
-                order: told.order,
-                begins_period: told.begins_period == 1,
-                slices: told.slices as usize,
+                top: record.top,
+                bottom: record.bottom,
+                order: record.order,
+                begins_period: record.begins_period == 1,
+                slices: record.slices as usize,
             }),
-            sys::CUPDAISY_FAULT => Outcome::Fault(Fault::of(told.fault)),
+            sys::CUPDAISY_FAULT => Outcome::Fault(Fault::of(record.fault)),
             _ => Outcome::Empty,
         }
     }

@@ -56,7 +56,7 @@ fn zeros<T: Plain>() -> T {
 }
 
 /// What a call writes into its last parameter, or its status where that isn't 0.
-fn told<T: Plain>(call: impl FnOnce(*mut T) -> Status) -> Result<T, Status> {
+fn written<T: Plain>(call: impl FnOnce(*mut T) -> Status) -> Result<T, Status> {
     let mut out = zeros();
     done(call(&mut out)).map(|()| out)
 }
@@ -84,18 +84,18 @@ fn filled(call: impl Fn(*mut u8, usize, *mut usize) -> Status) -> Result<Vec<u8>
 }
 
 /// Calls whose operands are numbers, and which write their last parameter.
-macro_rules! told {
+macro_rules! written {
     ($($name:ident = $call:ident($($operand:ident: $kind:ty),*) -> $out:ty;)*) => {
         impl Raw {
             $(pub(crate) fn $name(&self $(, $operand: $kind)*) -> Result<$out, Status> {
                 // SAFETY: as the module says; the last pointer is to a place for what is written.
-                told(|out| unsafe { $call(self.at(), $($operand,)* out) })
+                written(|out| unsafe { $call(self.at(), $($operand,)* out) })
             })*
         }
     };
 }
 
-told! {
+written! {
     delete = cupdaisy_delete(id: u32) -> cupdaisy_receipt;
     units = cupdaisy_units() -> usize;
     id_at = cupdaisy_id_at(place: usize) -> u32;
@@ -156,19 +156,19 @@ impl Raw {
     }
 
     pub(crate) fn insert_first(&self, text: &[u8]) -> Result<cupdaisy_receipt, Status> {
-        told(|out| unsafe { cupdaisy_insert_first(self.at(), text.as_ptr(), text.len(), out) })
+        written(|out| unsafe { cupdaisy_insert_first(self.at(), text.as_ptr(), text.len(), out) })
     }
 
     pub(crate) fn insert_after(&self, id: u32, text: &[u8]) -> Result<cupdaisy_receipt, Status> {
-        told(|out| unsafe { cupdaisy_insert_after(self.at(), id, text.as_ptr(), text.len(), out) })
+        written(|out| unsafe { cupdaisy_insert_after(self.at(), id, text.as_ptr(), text.len(), out) })
     }
 
     pub(crate) fn insert_last(&self, text: &[u8]) -> Result<cupdaisy_receipt, Status> {
-        told(|out| unsafe { cupdaisy_insert_last(self.at(), text.as_ptr(), text.len(), out) })
+        written(|out| unsafe { cupdaisy_insert_last(self.at(), text.as_ptr(), text.len(), out) })
     }
 
     pub(crate) fn replace(&self, id: u32, text: &[u8]) -> Result<cupdaisy_receipt, Status> {
-        told(|out| unsafe { cupdaisy_replace(self.at(), id, text.as_ptr(), text.len(), out) })
+        written(|out| unsafe { cupdaisy_replace(self.at(), id, text.as_ptr(), text.len(), out) })
     }
 
     /// The status, and what is told with it; the ids are written where the group is made.
@@ -203,9 +203,9 @@ impl Raw {
     /// What is told of so many units from a place on, or of those up to the last one.
     pub(crate) fn doubts(&self, from: usize, count: usize) -> Result<Vec<cupdaisy_doubt>, Status> {
         let mut doubts = vec![zeros(); count.min(self.units()?)];
-        let mut told = 0;
-        done(unsafe { cupdaisy_doubts(self.at(), from, doubts.as_mut_ptr(), doubts.len(), &mut told) })?;
-        doubts.truncate(told);
+        let mut count = 0;
+        done(unsafe { cupdaisy_doubts(self.at(), from, doubts.as_mut_ptr(), doubts.len(), &mut count) })?;
+        doubts.truncate(count);
         Ok(doubts)
     }
 
@@ -224,7 +224,7 @@ impl Raw {
     /// A surface that the session has no more; none where none can go back now.
     pub(crate) fn released(&self) -> Option<u64> {
         let mut surface = 0;
-        let count = told(|count| unsafe { cupdaisy_released(self.at(), &mut surface, 1, count) });
+        let count = written(|count| unsafe { cupdaisy_released(self.at(), &mut surface, 1, count) });
         (count == Ok(1)).then_some(surface)
     }
 }

@@ -1,4 +1,4 @@
-//! DoubtRanges of units in doubt.
+//! Ranges of units in doubt.
 
 ghost use Rattle.std.specs.Prelude.{◌≤◌, length};
 ghost use Rattle.access_unit.specs.StreamUnits.{most_units};

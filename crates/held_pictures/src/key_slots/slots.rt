@@ -1,4 +1,4 @@
-//! Places by the numbers of keys.
+//! Slots by the numbers of keys.
 
 ghost use Rattle.std.specs.Prelude.{◌≡◌, ◌+◌, ◌^◌, ◌==◌, ◌<◌, ◌≤◌, ℕ, [], ◌∷◌, ◌++◌, length, if◌then◌else◌, IsPermutation, Some, None, OnOk};
 ghost use Rattle.std.specs.List.{slice_set};
@@ -58,7 +58,7 @@ impl<P: Copy + Drop> KeySlots<P> {
         }
     }
 
-    /// The place of a key: nothing where the key isn't in use, and else its picture where that is
+    /// The slot of a key: nothing where the key isn't in use, and else its picture where that is
     /// held.
     pub fn get(&self, key: KeyId) -> Option<Option<P>>
         ensures { result ≡ place_at self.now key }
@@ -117,7 +117,7 @@ impl<P: Copy + Drop> KeySlots<P> {
         );
     }
 
-    /// Takes the picture out of the place of a key in use, and gives it back.
+    /// Takes the picture out of the slot of a key in use, and gives it back.
     pub fn empty(&mut self, key: KeyId) -> Option<P>
         ensures picture { result ≡ picture_held (place_at self.old key) }
         ensures uses { (number : ℕ) → uses_at self.new number ≡ uses_at self.old number }

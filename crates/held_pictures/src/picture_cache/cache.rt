@@ -1,3 +1,5 @@
+//! A list of pairs of a key and a picture, of which there is a greatest number.
+
 ghost use Rattle.std.specs.Prelude.{◌≡◌, ◌≤◌, ◌==◌, [], ◌∷◌, ◌++◌, length, is_some, option_copied, option_map, IfErr, IfOk, IsOk, IsPermutation, IsSome, MatchOption, ◌<◌, Some, None, false};
 ghost use Rattle.std.specs.Option.{option_to_list};
 ghost use Rattle.std.specs.Map.{lookup, keys_of, values_of};

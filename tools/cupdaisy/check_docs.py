@@ -146,6 +146,15 @@ def differences_of_paths(text):
             yield text.count("\n", 0, found.start()) + 1, f"names {path}, which isn't there"
 
 
+def differences_of_files(text):
+    """The files that the map names in a row of crates and that none of these has."""
+    for row in re.finditer(r"^\| ([a-z0-9_, ]+) \| (.*) \|$", text, re.MULTILINE):
+        sources = [TOP / "crates" / name / "src" for name in row[1].split(", ")]
+        for file in re.findall(r"`([\w/]+\.rt)`", row[2]):
+            if not any((source / file).is_file() for source in sources):
+                yield text.count("\n", 0, row.start()) + 1, f"names {file}, which is no file of {row[1]}"
+
+
 def differences_of_edits(text):
     """The wrong bodies that a table of crates lists and of which the crates of the row have no edit."""
     for row in re.finditer(r"^\| ([\w, ]+) \| (.*) \|$", text, re.MULTILINE):
@@ -195,6 +204,8 @@ def differences(name, text):
         yield from differences_of_words(text)
     if name == "docs/DECISIONS.md":
         yield from differences_of_edits(text)
+    if name == "docs/ARCHITECTURE.md":
+        yield from differences_of_files(text)
     if name == "README.md":
         yield from differences_of_links(text)
     if name == "README.md" and len(text.encode()) > BYTES:

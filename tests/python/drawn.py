@@ -82,7 +82,7 @@ class Session(interface.Session):
         return super().land(job, surface)
 
     def job_references(self, job):
-        found = (self.told(interface.records.JobReference(), "job_reference", job, index)
+        found = (self.written(interface.records.JobReference(), "job_reference", job, index)
                  for index in range(self.job_input(job).references))
         return [(each.timestamp, self.known[each.surface]) for each in found]
 
